@@ -1,0 +1,2 @@
+pub mod MarkedExamples
+pub mod Uniqueness

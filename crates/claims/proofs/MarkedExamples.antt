@@ -1,0 +1,66 @@
+-- The definitions compute to the values of the examples. Two facts want a law: memory of which only the first bytes are named has a first
+-- word, and a word all of whose bits are set becomes the data.
+use Prim.Native.Nat.{ℕ, zero, suc, _+_, _<_}
+use mathlib.Core.Bool.{true}
+use mathlib.Core.Path.{_≡_, refl, _∙_}
+use mathlib.Core.List.{List}
+use native.Mathlib.Omega.{arith}
+use lib.Dec.{leb}
+use lib.ListN.{length}
+use borrow.Author.Tests.{le-leb}
+use Rattle.words.specs.Bits.{bit, join, withField}
+use Rattle.words.specs.Bytes.{byte, number, bytesAt, put, fits, fieldFits, fieldWritten}
+use Rattle.words.specs.Choice.{pick}
+use Rattle.words.specs.declared.Unit.the-variants.{Four}
+use Rattle.words.proofs.Choice.{chosen}
+use Rattle.checksum.specs.Checksum.{shifted, fedBit, fed, fedWords}
+use Rattle.windows.specs.Window.{hasRight, inside, grantsRange, placeFrom, placeOf}
+use Rattle.commands.specs.Commands.{multiple, rangeJudged, loadJudged, wordsFed, loadFed, fillJudged, filled, fillMemory, fieldShape, shapeOf, unitJudged, settingMemory, target, soughtFrom}
+use Rattle.claims.specs.MarkedExamples.{AllHold, wordThen, marked}
+
+module _ (word value : ℕ) (rest : List ℕ) where
+  -- memory has a first word, so a field of it is written
+  first-set : (start width : ℕ) → leb (start + width) 32 ≡ true
+      → fieldWritten (wordThen word rest) 0 Four start width value
+      ≡ wordThen (withField (number (bytesAt (wordThen word rest) 0 4)) start width value) rest
+  unfolding fieldWritten fieldFits fits put bytesAt
+  first-set start width inside = chosen _ _ _ (rw (le-leb 4 (length (wordThen word rest)) (omega arith), inside))
+
+  -- a field of all 32 bits leaves nothing of what the word was
+  byte-set : (old place : ℕ) → place < 4 → byte (withField old 0 32 value) place ≡ byte value place
+  unfolding withField join byte
+  byte-set old zero h = omega arith
+  byte-set old (suc zero) h = omega arith
+  byte-set old (suc (suc zero)) h = omega arith
+  byte-set old (suc (suc (suc zero))) h = omega arith
+  byte-set old (suc (suc (suc (suc place)))) h = omega arith
+
+  all-set : (old : ℕ) → wordThen (withField old 0 32 value) rest ≡ wordThen value rest
+  all-set old = rw (byte-set old 0 (omega arith), byte-set old 1 (omega arith), byte-set old 2 (omega arith), byte-set old 3 (omega arith))
+
+-- a statement and those after it
+infixr 4 _and_
+_and_ : {A B : Type 0} → A → B → A × B
+a and b = (a, b)
+
+pub marked-hold : AllHold marked
+unfolding pick bit join withField byte number bytesAt put fits fieldFits fieldWritten shifted fedBit fed fedWords
+    hasRight inside grantsRange placeFrom placeOf multiple rangeJudged loadJudged wordsFed loadFed fillJudged filled fillMemory
+    fieldShape shapeOf unitJudged settingMemory target soughtFrom
+marked-hold =
+    refl
+    and refl
+    and (λ rest. first-set 0x7F 1 rest 4 3 refl)
+    and (λ rest. first-set 0x7F 9 rest 4 3 refl)
+    and (λ word value rest. first-set word value rest 0 32 refl ∙ all-set word value rest _)
+    and refl
+    and refl
+    and refl
+    and refl
+    and (λ a b c d e f rest. refl)
+    and refl
+    and refl
+    and refl
+    and refl
+    and refl
+    and tt

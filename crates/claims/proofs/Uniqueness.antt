@@ -1,0 +1,137 @@
+-- Two results that meet one contract coincide, and so do two memories at exit: the contract gives each as a value of the arguments.
+-- `Post` of a function is what it is proved to meet, of lifetimes, arguments, result and parameters at exit; it computes to the `ensures`.
+use Prim.Native.Nat.{ℕ}
+use mathlib.Core.Path.{_≡_, sym, _∙_}
+use mathlib.Core.List.{List}
+use denote.Ref.{now}
+use Rattle.words.proofs.Unit.size.Reads as size
+use Rattle.words.proofs.bit_of.Reads as bit_of
+use Rattle.words.proofs.byte_of.Reads as byte_of
+use Rattle.words.proofs.number_of.Reads as number_of
+use Rattle.words.proofs.read.Reads as read
+use Rattle.words.proofs.put_byte.Reads as put_byte
+use Rattle.words.proofs.write.Reads as write
+use Rattle.words.proofs.write_field.Reads as write_field
+use Rattle.checksum.proofs.feed_word.Reads as feed_word
+use Rattle.checksum.proofs.feed.Reads as feed
+use Rattle.windows.proofs.grants.Reads as grants
+use Rattle.windows.proofs.locate.Reads as locate
+use Rattle.windows.proofs.sum.Reads as sum
+use Rattle.windows.proofs.kept.Reads as kept
+use Rattle.windows.proofs.is_good.Reads as is_good
+use Rattle.script.proofs.Refusal.number.Reads as number
+use Rattle.script.proofs.Event.kind.Reads as kind
+use Rattle.script.proofs.Event.value.Reads as value
+use Rattle.script.proofs.look_up.Reads as look_up
+use Rattle.commands.proofs.judge_load.Reads as judge_load
+use Rattle.commands.proofs.load.Reads as load
+use Rattle.commands.proofs.fill.Reads as fill
+use Rattle.commands.proofs.boot_table.Reads as boot_table
+use Rattle.commands.proofs.jump.Reads as jump
+use Rattle.commands.proofs.jump_and_close.Reads as jump_and_close
+use Rattle.commands.proofs.seek.Reads as seek
+
+module _ {K : Type 0} {A R E : K → Type 0} (Post : (κs : K) → A κs → R κs → E κs → Type 0) where
+  -- any two outcomes that a contract allows at the same arguments agree
+  abbrev Coincide : ((κs : K) → R κs → R κs → E κs → E κs → Type 0) → Type 0
+  Coincide Agree = (κs : K) (a : A κs) (r s : R κs) (e f : E κs) → Post κs a r e → Post κs a s f → Agree κs r s e f
+
+  -- in the result; in a memory at exit; in both
+  abbrev pub OneResult : Type 0
+  OneResult = Coincide (λ κs r s e f. r ≡ s)
+
+  abbrev pub OneMemory : ((κs : K) → E κs → List ℕ) → Type 0
+  OneMemory memory = Coincide (λ κs r s e f. memory κs e ≡ memory κs f)
+
+  abbrev pub OneResultAndMemory : ((κs : K) → E κs → List ℕ) → Type 0
+  OneResultAndMemory memory = Coincide (λ κs r s e f. (r ≡ s) × (memory κs e ≡ memory κs f))
+
+-- two that are one value are equal
+same : {T : Type 0} {x y z : T} → x ≡ z → y ≡ z → x ≡ y
+same p q = p ∙ sym q
+
+both-same : {T U : Type 0} {x y z : T} {k m n : U} → (x ≡ z) × (k ≡ n) → (y ≡ z) × (m ≡ n) → (x ≡ y) × (k ≡ m)
+both-same p q = (same (p .0) (q .0), same (p .1) (q .1))
+
+-- words
+pub size-unique : OneResult size.Post
+size-unique κs a r s e f = same
+
+pub bit-of-unique : OneResult bit_of.Post
+bit-of-unique κs a r s e f = same
+
+pub byte-of-unique : OneResult byte_of.Post
+byte-of-unique κs a r s e f = same
+
+pub number-of-unique : OneResult number_of.Post
+number-of-unique κs a r s e f = same
+
+pub read-unique : OneResult read.Post
+read-unique κs a r s e f = same
+
+pub put-byte-unique : OneMemory put_byte.Post (λ κs e. now (e .0))
+put-byte-unique κs a r s e f = same
+
+pub write-unique : OneResultAndMemory write.Post (λ κs e. now (e .0))
+write-unique κs a r s e f = both-same
+
+pub write-field-unique : OneResultAndMemory write_field.Post (λ κs e. now (e .0))
+write-field-unique κs a r s e f = both-same
+
+-- checksum
+pub feed-word-unique : OneResult feed_word.Post
+feed-word-unique κs a r s e f = same
+
+pub feed-unique : OneResult feed.Post
+feed-unique κs a r s e f = same
+
+-- windows
+pub grants-unique : OneResult grants.Post
+grants-unique κs a r s e f = same
+
+pub locate-unique : OneResult locate.Post
+locate-unique κs a r s e f = same
+
+pub sum-unique : OneResult sum.Post
+sum-unique κs a r s e f = same
+
+pub kept-unique : OneResult kept.Post
+kept-unique κs a r s e f = same
+
+pub is-good-unique : OneResult is_good.Post
+is-good-unique κs a r s e f = same
+
+-- script
+pub number-unique : OneResult number.Post
+number-unique κs a r s e f = same
+
+pub kind-unique : OneResult kind.Post
+kind-unique κs a r s e f = same
+
+pub value-unique : OneResult value.Post
+value-unique κs a r s e f = same
+
+pub look-up-unique : OneResult look_up.Post
+look-up-unique κs a r s e f = same
+
+-- commands
+pub judge-load-unique : OneResult judge_load.Post
+judge-load-unique κs a r s e f = same
+
+pub load-unique : OneResultAndMemory load.Post (λ κs e. now (e .0))
+load-unique κs a r s e f = both-same
+
+pub fill-unique : OneResultAndMemory fill.Post (λ κs e. now (e .1 .0))
+fill-unique κs a r s e f = both-same
+
+pub boot-table-unique : OneResultAndMemory boot_table.Post (λ κs e. now (e .1 .0))
+boot-table-unique κs a r s e f = both-same
+
+pub jump-unique : OneResult jump.Post
+jump-unique κs a r s e f = same
+
+pub jump-and-close-unique : OneResult jump_and_close.Post
+jump-and-close-unique κs a r s e f = same
+
+pub seek-unique : OneResult seek.Post
+seek-unique κs a r s e f = same

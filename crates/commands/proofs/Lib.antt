@@ -1,0 +1,4 @@
+pub mod Feeding
+pub mod Judging
+pub mod Seeking
+pub mod Shapes

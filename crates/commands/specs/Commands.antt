@@ -1,0 +1,176 @@
+-- What a command does once its words are known, in either mode (01, "Commands").
+use Prim.Native.Nat.{ℕ, zero, suc, _+_, _-_, _*_, _/_, _%_, _^_}
+use mathlib.Core.Bool.{Bool, not, _&&_}
+use mathlib.Core.List.{List, [], _∷_}
+use lib.Dec.{leb, ltb, eqb}
+use lib.ListN.{length, getD, take, drop}
+use Rattle.words.specs.Bytes.{byte, number, put, sizeOf, fieldWritten}
+use Rattle.words.specs.Choice.{pick}
+use Rattle.words.specs.declared.Unit.{Unit as UnitOf}
+use Rattle.words.specs.declared.Unit.the-variants.{One, Two, Four}
+use Rattle.checksum.specs.Checksum.{fed, fedWords}
+use Rattle.windows.specs.Window.{placeOf}
+use Rattle.windows.specs.declared.Window.{Window}
+use Rattle.windows.specs.declared.Place.{Place}
+use Rattle.windows.specs.declared.Place.the-variants.{At, Nowhere}
+use Rattle.windows.specs.declared.Right.{Right}
+use Rattle.windows.specs.declared.Right.the-variants as right
+use Rattle.script.specs.Answers.{numberOf}
+use Rattle.script.specs.declared.Event.{Event}
+use Rattle.script.specs.declared.Event.the-variants as event
+use Rattle.script.specs.declared.Refusal.{Refusal}
+use Rattle.script.specs.declared.Refusal.the-variants as refusal
+use Rattle.commands.specs.declared.Judged.{Judged}
+use Rattle.commands.specs.declared.Judged.the-variants.{Granted, Refused}
+use Rattle.commands.specs.declared.Done.{Done}
+use Rattle.commands.specs.declared.Shape.{Shape}
+use Rattle.commands.specs.declared.Shape.the-variants.{Bits, Wrong}
+use Rattle.commands.specs.declared.Sought.{Sought}
+use Rattle.commands.specs.declared.Sought.the-variants as sought
+
+-- the number that a command is refused with, 0 where it is granted
+abbrev pub judgedNumber : Judged → ℕ
+judgedNumber (Granted place) = 0
+judgedNumber (Refused q) = numberOf q
+
+-- the number that a seek is refused with, 0 where it leads to an offset
+abbrev pub soughtNumber : Sought → ℕ
+soughtNumber (sought.To offset) = 0
+soughtNumber (sought.Refused q) = numberOf q
+
+-- is n a multiple of a unit?
+unfoldable pub multiple : ℕ → ℕ → Bool
+multiple n unit = eqb (n % unit) 0
+
+-- a range that has a place is granted; one that has none gets the refusal
+abbrev pub placed : Refusal → Place → Judged
+placed q (At place) = Granted place
+placed q Nowhere = Refused q
+
+-- a range and a right: 7
+unfoldable pub rangeJudged : List Window → Right → ℕ → ℕ → Judged
+rangeJudged windows wanted address size = placed refusal.Range (placeOf windows wanted address size)
+
+-- the answer to a command: its event and register where it is granted; no event and the register as it was where it is refused
+abbrev pub doneIf : Judged → ℕ → Event → ℕ → Done
+doneIf (Granted place) register told fed = record { refusal = refusal.None; event = told; register = fed }
+doneIf (Refused q) register told fed = record { refusal = q; event = event.Nothing; register = register }
+
+-- the memory after a command: written at its place where it is granted, as it was where it is refused
+abbrev pub memoryIf : Judged → (ℕ → List ℕ) → List ℕ → List ℕ
+memoryIf (Granted place) writing memory = writing place
+memoryIf (Refused q) writing memory = memory
+
+-- Load: needs load right
+unfoldable pub loadJudged : List Window → ℕ → ℕ → Judged
+loadJudged windows address size = rangeJudged windows right.Load address size
+
+-- its bytes, lowest address first
+unfoldable pub loaded : List ℕ → ℕ → List ℕ → List ℕ
+loaded memory place bytes = put memory place (length bytes) (λ i. getD bytes i 0)
+
+-- what n words of data feed: four bytes each, of the last as many as are left
+unfoldable pub wordsFed : ℕ → ℕ → List ℕ → ℕ
+wordsFed register zero bytes = register
+wordsFed register (suc n) bytes =
+    wordsFed (fed register (number (take 4 bytes)) (8 * length (take 4 bytes))) n (drop 4 bytes)
+
+-- what a load feeds: address, size, data
+unfoldable pub loadFed : ℕ → ℕ → List ℕ → ℕ
+loadFed register address bytes =
+    wordsFed (fedWords register (address ∷ length bytes ∷ [])) ((length bytes + 3) / 4) bytes
+
+-- Fill: type 0, 1, 2 is a unit of 1, 2, 4 bytes
+abbrev pub unitOf : ℕ → ℕ
+unitOf kind = 2 ^ kind
+
+-- 8 another type, 9 address or size not a multiple of the unit, 7; needs load right
+unfoldable pub fillJudged : List Window → ℕ → ℕ → ℕ → Judged
+fillJudged windows address size kind =
+    pick (not (leb kind 2)) (Refused refusal.TypeWord)
+    (pick (not (multiple address (unitOf kind))) (Refused refusal.Unaligned)
+    (pick (not (multiple size (unitOf kind))) (Refused refusal.Unaligned)
+    (rangeJudged windows right.Load address size)))
+
+-- the low bytes of the pattern repeat
+unfoldable pub filled : List ℕ → ℕ → ℕ → ℕ → ℕ → List ℕ
+filled memory place size kind pattern = put memory place size (λ i. byte pattern (i % unitOf kind))
+
+-- a fill feeds address, size, type, pattern while the checksum is on
+unfoldable pub fillDone : List Window → Bool → ℕ → ℕ → ℕ → ℕ → ℕ → Done
+fillDone windows on register address size kind pattern =
+    doneIf (fillJudged windows address size kind) register event.Nothing
+    (pick on (fedWords register (address ∷ size ∷ kind ∷ pattern ∷ [])) register)
+
+unfoldable pub fillMemory : List Window → List ℕ → ℕ → ℕ → ℕ → ℕ → List ℕ
+fillMemory windows memory address size kind pattern =
+    memoryIf (fillJudged windows address size kind) (λ place. filled memory place size kind pattern) memory
+
+-- Boot Table's type word: bits 0-7 the kind, 8-15 START, 16-23 STOP
+abbrev pub startOf : ℕ → ℕ
+startOf word = byte word 1
+
+abbrev pub stopOf : ℕ → ℕ
+stopOf word = byte word 2
+
+-- a field of a word needs START ≤ STOP ≤ 31, and has STOP - START + 1 bits
+unfoldable pub fieldShape : ℕ → ℕ → Shape
+fieldShape start stop = pick (leb start stop && leb stop 31) (Bits Four start (stop - start + 1)) Wrong
+
+-- which bits of which unit it sets: kinds 0, 1, 2 all of 1, 2, 4 bytes; 3 and 4 a field; bits 24-31 are zero
+unfoldable pub shapeOf : ℕ → Shape
+shapeOf word =
+    pick (not (eqb (byte word 3) 0)) Wrong
+    (pick (eqb (byte word 0) 0) (Bits One 0 8)
+    (pick (eqb (byte word 0) 1) (Bits Two 0 16)
+    (pick (eqb (byte word 0) 2) (Bits Four 0 32)
+    (pick (leb (byte word 0) 4) (fieldShape (startOf word) (stopOf word))
+    Wrong))))
+
+-- 9 address not a multiple of the unit, 7; needs set right
+unfoldable pub unitJudged : List Window → UnitOf → ℕ → Judged
+unitJudged windows unit address =
+    pick (not (multiple address (sizeOf unit))) (Refused refusal.Unaligned)
+    (rangeJudged windows right.Set address (sizeOf unit))
+
+-- 8 before them
+abbrev pub shapeJudged : List Window → Shape → ℕ → Judged
+shapeJudged windows Wrong address = Refused refusal.TypeWord
+shapeJudged windows (Bits unit start width) address = unitJudged windows unit address
+
+-- the bits of the shape become the low bits of the data, all other bits are kept
+abbrev pub shapeSet : List ℕ → ℕ → Shape → ℕ → List ℕ
+shapeSet memory place Wrong value = memory
+shapeSet memory place (Bits unit start width) value = fieldWritten memory place unit start width value
+
+-- Boot Table: event wait; it feeds nothing
+unfoldable pub settingDone : List Window → ℕ → ℕ → ℕ → ℕ → Done
+settingDone windows register word address delay =
+    doneIf (shapeJudged windows (shapeOf word) address) register (event.Wait delay) register
+
+unfoldable pub settingMemory : List Window → List ℕ → ℕ → ℕ → ℕ → List ℕ
+settingMemory windows memory word address value =
+    memoryIf (shapeJudged windows (shapeOf word) address) (λ place. shapeSet memory place (shapeOf word) value) memory
+
+-- an entry address: 10 where it is not a multiple of 4, or not in an entry window
+unfoldable pub entryJudged : List Window → ℕ → Judged
+entryJudged windows address =
+    pick (not (multiple address 4)) (Refused refusal.Entry) (placed refusal.Entry (placeOf windows right.Entry address 0))
+
+-- Jump: event call
+unfoldable pub jumpDone : List Window → ℕ → ℕ → Done
+jumpDone windows register address = doneIf (entryJudged windows address) register (event.Call address) register
+
+-- Jump & Close: event enter
+unfoldable pub closeDone : List Window → ℕ → ℕ → Done
+closeDone windows register address = doneIf (entryJudged windows address) register (event.Enter address) register
+
+-- where a flash Request's seek leads: the seek is added modulo 2^32 to the offset after it, 12 bytes past the Request's opcode
+unfoldable pub target : ℕ → ℕ → ℕ
+target request seek = (request + 12 + seek) % 2 ^ 32
+
+-- 12 unless it is a multiple of 4, at least 4, below the Request's own offset
+unfoldable pub soughtFrom : ℕ → ℕ → Sought
+soughtFrom request seek =
+    pick (multiple (target request seek) 4 && leb 4 (target request seek) && ltb (target request seek) request)
+    (sought.To (target request seek)) (sought.Refused refusal.Seek)

@@ -1,0 +1,376 @@
+// What a command does once its words are known, in either mode: judged first, then done. A refused command changes nothing.
+ghost use mathlib.Core.Path.{_≡_};
+ghost use mathlib.Core.List.{[], _∷_};
+ghost use Prim.Native.Nat.{_+_, _/_, _≤_, min};
+ghost use lib.ListN.{length};
+ghost use Rattle.words.specs.Choice.{pick};
+ghost use Rattle.checksum.specs.Checksum.{fedWords};
+ghost use Rattle.commands.specs.Commands.{
+  rangeJudged,
+  doneIf,
+  memoryIf,
+  loadJudged,
+  loaded,
+  wordsFed,
+  loadFed,
+  unitOf,
+  fillJudged,
+  filled,
+  fillDone,
+  fillMemory,
+  fieldShape,
+  shapeOf,
+  unitJudged,
+  shapeJudged,
+  shapeSet,
+  settingDone,
+  settingMemory,
+  entryJudged,
+  jumpDone,
+  closeDone,
+  soughtFrom,
+};
+use script::Event;
+use script::Refusal;
+use windows::Place;
+use windows::Right;
+use windows::Window;
+use words::Unit;
+
+// Whether a command is granted, and where in the lent memory.
+pub enum Judged {
+    Granted(usize),
+    Refused(Refusal),
+}
+
+// The answer to a command.
+pub struct Done {
+    pub refusal: Refusal,
+    pub event: Event,
+    pub register: u32,
+}
+
+// Which bits of which unit a Boot Table command sets: a unit, its first bit and how many.
+pub enum Shape {
+    Bits(Unit, u32, u32),
+    Wrong,
+}
+
+// Where a seek leads.
+pub enum Sought {
+    To(u32),
+    Refused(Refusal),
+}
+
+fn judge_range(windows: [Window; 8], right: Right, address: u32, size: u32) -> Judged
+    ensures { λ r. ⌜ r ≡ rangeJudged windows right address size ⌝ }
+{
+    let place = windows::locate(windows, right, address, size);
+    match place {
+        Place::At(at) => Judged::Granted(at),
+        Place::Nowhere => Judged::Refused(Refusal::Range),
+    }
+}
+
+// The answer to a command that was judged: `event` and `fed` count where it is granted.
+fn answer(judged: Judged, register: u32, event: Event, fed: u32) -> Done
+    ensures { λ r. ⌜ r ≡ doneIf judged register event fed ⌝ }
+{
+    match judged {
+        Judged::Granted(_) => Done {
+            refusal: Refusal::None,
+            event,
+            register: fed,
+        },
+        Judged::Refused(refusal) => Done {
+            refusal,
+            event: Event::Nothing,
+            register,
+        },
+    }
+}
+
+// Is a load of `size` bytes at an address granted?
+pub fn judge_load(windows: [Window; 8], address: u32, size: u32) -> Judged
+    ensures { λ r. ⌜ r ≡ loadJudged windows address size ⌝ }
+{
+    judge_range(windows, Right::Load, address, size)
+}
+
+// The bytes of a load, lowest address first.
+fn copy(memory: &mut [u8], place: usize, bytes: &[u8])
+    ensures { λ _. ⌜ now (memory .exit) ≡ loaded (now (memory .entry)) place (now (bytes .entry)) ⌝ }
+{
+    if memory.len() <= place {
+        return;
+    }
+    let mut i: usize = 0;
+    while i < bytes.len() {
+        words::put_byte(memory, place + i, bytes[i]);
+        i += 1;
+    }
+}
+
+// What the data of a load feed: a word at a time, of the last only the bytes that are left.
+fn feed_data(register: u32, bytes: &[u8]) -> u32
+    ensures { λ r. ⌜ r ≡ wordsFed register ((length (now (bytes .entry)) + 3) / 4) (now (bytes .entry)) ⌝ }
+{
+    let mut reached = register;
+    let mut at: usize = 0;
+    while at < bytes.len() {
+        let word = words::number_of(&bytes[at..]);
+        reached = checksum::feed(reached, word, left_over(bytes.len() - at));
+        at += 4;
+    }
+    reached
+}
+
+// How many of the bytes that are left belong to the next word.
+fn left_over(left: usize) -> u32
+    ensures { λ r. ⌜ r ≡ min 4 left ⌝ }
+{
+    if left < 4 { left as u32 } else { 4 }
+}
+
+// Does a load that was granted: its bytes at their place; the answer is the register.
+pub fn load(
+    memory: &mut [u8],
+    place: usize,
+    on: bool,
+    register: u32,
+    address: u32,
+    bytes: &[u8],
+) -> u32
+    ensures { λ r. ⌜ r ≡ pick on (loadFed register address (now (bytes .entry))) register ⌝ }
+    ensures { λ _. ⌜ now (memory .exit) ≡ loaded (now (memory .entry)) place (now (bytes .entry)) ⌝ }
+{
+    copy(memory, place, bytes);
+    if on {
+        let size = (bytes.len() % 4294967296) as u32;
+        let head = checksum::feed_word(checksum::feed_word(register, address), size);
+        return feed_data(head, bytes);
+    }
+    register
+}
+
+// The bytes of a unit of a type.
+fn unit_bytes(kind: u32) -> u32
+    requires { ⌜ kind ≤ 2 ⌝ }
+    ensures { λ r. ⌜ r ≡ unitOf kind ⌝ }
+{
+    1 << kind
+}
+
+fn judge_fill(windows: [Window; 8], address: u32, size: u32, kind: u32) -> Judged
+    ensures { λ r. ⌜ r ≡ fillJudged windows address size kind ⌝ }
+{
+    if 2 < kind {
+        return Judged::Refused(Refusal::TypeWord);
+    }
+    let unit = unit_bytes(kind);
+    if address % unit != 0 {
+        return Judged::Refused(Refusal::Unaligned);
+    }
+    if size % unit != 0 {
+        return Judged::Refused(Refusal::Unaligned);
+    }
+    judge_range(windows, Right::Load, address, size)
+}
+
+// The pattern's bytes, each by the remainder of its place in the unit.
+fn fill_bytes(memory: &mut [u8], place: usize, size: u32, kind: u32, pattern: u32)
+    requires { ⌜ kind ≤ 2 ⌝ }
+    ensures { λ _. ⌜ now (memory .exit) ≡ filled (now (memory .entry)) place size kind pattern ⌝ }
+{
+    if memory.len() <= place {
+        return;
+    }
+    let unit = unit_bytes(kind);
+    let mut i: u32 = 0;
+    while i < size {
+        words::put_byte(
+            memory,
+            place + (i as usize),
+            words::byte_of(pattern, i % unit),
+        );
+        i += 1;
+    }
+}
+
+// What a fill feeds.
+fn feed_fill(on: bool, register: u32, address: u32, size: u32, kind: u32, pattern: u32) -> u32
+    ensures { λ r. ⌜ r ≡ pick on (fedWords register (address ∷ size ∷ kind ∷ pattern ∷ [])) register ⌝ }
+{
+    if on {
+        let range = checksum::feed_word(checksum::feed_word(register, address), size);
+        return checksum::feed_word(checksum::feed_word(range, kind), pattern);
+    }
+    register
+}
+
+// Fill.
+pub fn fill(
+    windows: [Window; 8],
+    memory: &mut [u8],
+    on: bool,
+    register: u32,
+    address: u32,
+    size: u32,
+    kind: u32,
+    pattern: u32,
+) -> Done
+    ensures { λ r. ⌜ r ≡ fillDone windows on register address size kind pattern ⌝ }
+    ensures { λ _. ⌜ now (memory .exit) ≡ fillMemory windows (now (memory .entry)) address size kind pattern ⌝ }
+{
+    let judged = judge_fill(windows, address, size, kind);
+    match judged {
+        Judged::Granted(place) => {
+            fill_bytes(memory, place, size, kind, pattern);
+            let fed = feed_fill(on, register, address, size, kind, pattern);
+            answer(judged, register, Event::Nothing, fed)
+        }
+        Judged::Refused(_) => answer(judged, register, Event::Nothing, register),
+    }
+}
+
+// A field of a word, by the START and STOP of a type word.
+fn field_shape(start: u32, stop: u32) -> Shape
+    ensures { λ r. ⌜ r ≡ fieldShape start stop ⌝ }
+{
+    if stop < start {
+        return Shape::Wrong;
+    }
+    if 31 < stop {
+        return Shape::Wrong;
+    }
+    Shape::Bits(Unit::Four, start, stop - start + 1)
+}
+
+// Which bits a type word names.
+fn shape_of(word: u32) -> Shape
+    ensures { λ r. ⌜ r ≡ shapeOf word ⌝ }
+{
+    if words::byte_of(word, 3) != 0 {
+        return Shape::Wrong;
+    }
+    let kind = words::byte_of(word, 0);
+    match kind {
+        0 => Shape::Bits(Unit::One, 0, 8),
+        1 => Shape::Bits(Unit::Two, 0, 16),
+        2 => Shape::Bits(Unit::Four, 0, 32),
+        3 | 4 => field_shape(
+            words::byte_of(word, 1) as u32,
+            words::byte_of(word, 2) as u32,
+        ),
+        _ => Shape::Wrong,
+    }
+}
+
+fn judge_shape(windows: [Window; 8], shape: Shape, address: u32) -> Judged
+    ensures { λ r. ⌜ r ≡ shapeJudged windows shape address ⌝ }
+{
+    match shape {
+        Shape::Wrong => Judged::Refused(Refusal::TypeWord),
+        Shape::Bits(unit, _, _) => judge_unit(windows, unit, address),
+    }
+}
+
+// Is setting bits of the unit at an address granted?
+fn judge_unit(windows: [Window; 8], unit: Unit, address: u32) -> Judged
+    ensures { λ r. ⌜ r ≡ unitJudged windows unit address ⌝ }
+{
+    let size = unit.size() as u32;
+    if address % size != 0 {
+        return Judged::Refused(Refusal::Unaligned);
+    }
+    judge_range(windows, Right::Set, address, size)
+}
+
+// Sets the bits of a shape where the command is granted.
+fn set_shape(memory: &mut [u8], judged: Judged, shape: Shape, value: u32)
+    ensures { λ _. ⌜ now (memory .exit) ≡ memoryIf judged (λ place. shapeSet (now (memory .entry)) place shape value) (now (memory .entry)) ⌝ }
+{
+    match judged {
+        Judged::Granted(place) => match shape {
+            Shape::Bits(unit, start, width) => {
+                words::write_field(memory, place, unit, start, width, value);
+            }
+            Shape::Wrong => {}
+        },
+        Judged::Refused(_) => {}
+    }
+}
+
+// Boot Table.
+pub fn boot_table(
+    windows: [Window; 8],
+    memory: &mut [u8],
+    register: u32,
+    word: u32,
+    address: u32,
+    value: u32,
+    delay: u32,
+) -> Done
+    ensures { λ r. ⌜ r ≡ settingDone windows register word address delay ⌝ }
+    ensures { λ _. ⌜ now (memory .exit) ≡ settingMemory windows (now (memory .entry)) word address value ⌝ }
+{
+    let shape = shape_of(word);
+    let judged = judge_shape(windows, shape, address);
+    set_shape(memory, judged, shape, value);
+    answer(judged, register, Event::Wait(delay), register)
+}
+
+fn judge_entry(windows: [Window; 8], address: u32) -> Judged
+    ensures { λ r. ⌜ r ≡ entryJudged windows address ⌝ }
+{
+    if address % 4 != 0 {
+        return Judged::Refused(Refusal::Entry);
+    }
+    let place = windows::locate(windows, Right::Entry, address, 0);
+    match place {
+        Place::At(at) => Judged::Granted(at),
+        Place::Nowhere => Judged::Refused(Refusal::Entry),
+    }
+}
+
+// Jump.
+pub fn jump(windows: [Window; 8], register: u32, address: u32) -> Done
+    ensures { λ r. ⌜ r ≡ jumpDone windows register address ⌝ }
+{
+    answer(
+        judge_entry(windows, address),
+        register,
+        Event::Call(address),
+        register,
+    )
+}
+
+// Jump & Close.
+pub fn jump_and_close(windows: [Window; 8], register: u32, address: u32) -> Done
+    ensures { λ r. ⌜ r ≡ closeDone windows register address ⌝ }
+{
+    answer(
+        judge_entry(windows, address),
+        register,
+        Event::Enter(address),
+        register,
+    )
+}
+
+// Where the seek of a flash Request leads: counted from the offset after it, 12 bytes past the opcode.
+pub fn seek(request: u32, word: u32) -> Sought
+    ensures { λ r. ⌜ r ≡ soughtFrom request word ⌝ }
+{
+    let after = std::num::wrapping_add_u32(request, 12);
+    let target = std::num::wrapping_add_u32(after, word);
+    if target % 4 != 0 {
+        return Sought::Refused(Refusal::Seek);
+    }
+    if target < 4 {
+        return Sought::Refused(Refusal::Seek);
+    }
+    if request <= target {
+        return Sought::Refused(Refusal::Seek);
+    }
+    Sought::To(target)
+}

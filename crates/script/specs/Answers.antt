@@ -1,0 +1,39 @@
+-- The numbers of refusals, and the kinds and values of events.
+use Prim.Native.Nat.{ℕ}
+use Rattle.script.specs.declared.Refusal.{Refusal}
+use Rattle.script.specs.declared.Refusal.the-variants as refusal
+use Rattle.script.specs.declared.Event.{Event}
+use Rattle.script.specs.declared.Event.the-variants as event
+
+-- a refusal's number in document 01; 0 where nothing is refused
+abbrev pub numberOf : Refusal → ℕ
+numberOf refusal.None = 0
+numberOf refusal.Map = 1
+numberOf refusal.Memory = 2
+numberOf refusal.Image = 3
+numberOf refusal.Magic = 4
+numberOf refusal.Missing = 5
+numberOf refusal.Opcode = 6
+numberOf refusal.Range = 7
+numberOf refusal.TypeWord = 8
+numberOf refusal.Unaligned = 9
+numberOf refusal.Entry = 10
+numberOf refusal.Checksum = 11
+numberOf refusal.Seek = 12
+numberOf refusal.Cut = 13
+numberOf refusal.Ended = 14
+numberOf refusal.Call = 19
+
+-- an event's kind: 0 nothing, 1 wait, 2 call an address, 3 enter one
+abbrev pub kindOf : Event → ℕ
+kindOf event.Nothing = 0
+kindOf (event.Wait cycles) = 1
+kindOf (event.Call address) = 2
+kindOf (event.Enter address) = 3
+
+-- the cycles or the address that an event names
+abbrev pub valueOf : Event → ℕ
+valueOf event.Nothing = 0
+valueOf (event.Wait cycles) = cycles
+valueOf (event.Call address) = address
+valueOf (event.Enter address) = address

@@ -1,0 +1,235 @@
+// The words of an Application Image Script: opcode rows, refusal numbers and events.
+ghost use mathlib.Core.Path.{_≡_};
+ghost use Rattle.script.specs.Answers.{numberOf, kindOf, valueOf};
+ghost use Rattle.script.specs.Opcodes.{rowServes, lookedUp};
+
+// Why a call is refused; `None` where it is not.
+pub enum Refusal {
+    None,
+    Map,
+    Memory,
+    Image,
+    Magic,
+    Missing,
+    Opcode,
+    Range,
+    TypeWord,
+    Unaligned,
+    Entry,
+    Checksum,
+    Seek,
+    Cut,
+    Ended,
+    Call,
+}
+
+impl Refusal {
+    // The number on a fitter's card.
+    pub fn number(self) -> u8
+        ensures { λ r. ⌜ r ≡ numberOf self ⌝ }
+    {
+        match self {
+            Refusal::None => 0,
+            Refusal::Map => 1,
+            Refusal::Memory => 2,
+            Refusal::Image => 3,
+            Refusal::Magic => 4,
+            Refusal::Missing => 5,
+            Refusal::Opcode => 6,
+            Refusal::Range => 7,
+            Refusal::TypeWord => 8,
+            Refusal::Unaligned => 9,
+            Refusal::Entry => 10,
+            Refusal::Checksum => 11,
+            Refusal::Seek => 12,
+            Refusal::Cut => 13,
+            Refusal::Ended => 14,
+            Refusal::Call => 19,
+        }
+    }
+}
+
+// What the caller is asked to do, since nothing is executed here.
+pub enum Event {
+    Nothing,
+    Wait(u32),
+    Call(u32),
+    Enter(u32),
+}
+
+impl Event {
+    // 0 nothing, 1 wait, 2 call, 3 enter.
+    pub fn kind(self) -> u8
+        ensures { λ r. ⌜ r ≡ kindOf self ⌝ }
+    {
+        match self {
+            Event::Nothing => 0,
+            Event::Wait(_) => 1,
+            Event::Call(_) => 2,
+            Event::Enter(_) => 3,
+        }
+    }
+
+    // The cycles to wait, or the address to call or to enter.
+    pub fn value(self) -> u32
+        ensures { λ r. ⌜ r ≡ valueOf self ⌝ }
+    {
+        match self {
+            Event::Nothing => 0,
+            Event::Wait(cycles) => cycles,
+            Event::Call(address) => address,
+            Event::Enter(address) => address,
+        }
+    }
+}
+
+// How the words of a script arrive.
+pub enum Mode {
+    Sent,
+    Flash,
+}
+
+pub enum Command {
+    Load,
+    Fill,
+    BootTable,
+    Enable,
+    Disable,
+    Request,
+    StartOver,
+    Jump,
+    JumpAndClose,
+    Ping,
+    SequentialRead,
+}
+
+// A row of the opcode table: how many argument words follow, and the modes that allow it.
+pub struct Row {
+    pub opcode: u32,
+    pub command: Command,
+    pub words: u32,
+    pub sent: bool,
+    pub flash: bool,
+}
+
+pub const ROWS: [Row; 12] = [
+    Row {
+        opcode: 0x5853_5901,
+        command: Command::Load,
+        words: 2,
+        sent: true,
+        flash: true,
+    },
+    Row {
+        opcode: 0x5853_590A,
+        command: Command::Fill,
+        words: 4,
+        sent: true,
+        flash: true,
+    },
+    Row {
+        opcode: 0x5853_5907,
+        command: Command::BootTable,
+        words: 4,
+        sent: true,
+        flash: true,
+    },
+    Row {
+        opcode: 0x5853_5903,
+        command: Command::Enable,
+        words: 0,
+        sent: true,
+        flash: true,
+    },
+    Row {
+        opcode: 0x5853_5904,
+        command: Command::Disable,
+        words: 0,
+        sent: true,
+        flash: true,
+    },
+    Row {
+        opcode: 0x5853_5902,
+        command: Command::Request,
+        words: 2,
+        sent: false,
+        flash: true,
+    },
+    Row {
+        opcode: 0x5853_5902,
+        command: Command::Request,
+        words: 0,
+        sent: true,
+        flash: false,
+    },
+    Row {
+        opcode: 0x5853_5908,
+        command: Command::StartOver,
+        words: 0,
+        sent: true,
+        flash: false,
+    },
+    Row {
+        opcode: 0x5853_5905,
+        command: Command::Jump,
+        words: 1,
+        sent: true,
+        flash: true,
+    },
+    Row {
+        opcode: 0x5853_5906,
+        command: Command::JumpAndClose,
+        words: 1,
+        sent: true,
+        flash: true,
+    },
+    Row {
+        opcode: 0x5853_590B,
+        command: Command::Ping,
+        words: 1,
+        sent: true,
+        flash: false,
+    },
+    Row {
+        opcode: 0x5853_5963,
+        command: Command::SequentialRead,
+        words: 0,
+        sent: false,
+        flash: true,
+    },
+];
+
+// What the table says of a word where an opcode is awaited.
+pub enum Found {
+    Known(Command, u32),
+    Unknown,
+}
+
+// Is this the row of an opcode in a mode?
+fn serves(row: Row, opcode: u32, mode: Mode) -> bool
+    ensures { λ r. ⌜ r ≡ rowServes row opcode mode ⌝ }
+{
+    if row.opcode != opcode {
+        return false;
+    }
+    match mode {
+        Mode::Sent => row.sent,
+        Mode::Flash => row.flash,
+    }
+}
+
+// The command of an opcode in a mode, with its argument words.
+pub fn look_up(opcode: u32, mode: Mode) -> Found
+    ensures { λ r. ⌜ r ≡ lookedUp opcode mode ⌝ }
+{
+    let mut i: usize = 0;
+    while i < 12 {
+        let row = ROWS[i];
+        if serves(row, opcode, mode) {
+            let command = row.command;
+            return Found::Known(command, row.words);
+        }
+        i += 1;
+    }
+    Found::Unknown
+}

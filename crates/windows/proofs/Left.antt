@@ -1,0 +1,86 @@
+-- What each definition over windows says of those that a loop has left: the next one and the rest, or none.
+-- Each follows from the definition's cases.
+use mathlib.Core.Path.{_≡_, ap, sym}
+use mathlib.Core.Bool.{true, false}
+use mathlib.Core.List.{List, _∷_, append-nil}
+use Prim.Native.Nat.{ℕ, suc, _+_, _-_, _≤_, _<_}
+use native.Mathlib.Numerals.{add-one}
+use native.Mathlib.Omega.{arith}
+use borrow.Author.Tests.{le-leb, leb-true}
+use lib.ListN.{length, getD, take, drop, set, length-take, drop-of-length-le}
+use lib.Seq.{drop-cons, getD-take, take-all, take-suc-set, append-snoc}
+use Rattle.words.proofs.Choice.{chosen, passed, both, refuted}
+use Rattle.windows.specs.declared.Window.{Window}
+use Rattle.windows.specs.declared.Right.{Right}
+use Rattle.windows.specs.declared.Place.the-variants.{At, Nowhere}
+use Rattle.windows.specs.Window.{endOf, grantsRange, placeFrom, sumOf}
+use Rattle.windows.specs.Map.{soundWindow, allSound, rising, soundAndRising, zeroWindow, keptOf}
+
+-- at the end none is left
+module _ (ws : List Window) (i : ℕ) (h : length ws ≤ i) where
+  pub sum-none : sumOf (drop i ws) ≡ 0
+  unfolding sumOf
+  sum-none = ap sumOf (drop-of-length-le ws h)
+
+  pub place-none : (right : Right) (a n base : ℕ) → Nowhere ≡ placeFrom base (drop i ws) right a n
+  unfolding placeFrom
+  place-none right a n base = rw (drop-of-length-le ws h)
+
+  pub rising-none : (from : ℕ) → true ≡ soundAndRising from (drop i ws)
+  unfolding allSound rising
+  rising-none from = rw (drop-of-length-le ws h)
+
+-- else the next window and the rest
+module _ (ws : List Window) (i : ℕ) (h : i < length ws) where
+  next : drop i ws ≡ getD ws i zeroWindow ∷ drop (i + 1) ws
+  next = rw (add-one, drop-cons ws i zeroWindow)
+
+  pub sum-next : sumOf (drop i ws) ≡ getD ws i zeroWindow .length + sumOf (drop (i + 1) ws)
+  unfolding sumOf
+  sum-next = ap sumOf next
+
+  pub place-here : (right : Right) (a n base : ℕ)
+      → grantsRange (getD ws i zeroWindow) right a n ≡ true
+      → At (base + (a - getD ws i zeroWindow .first)) ≡ placeFrom base (drop i ws) right a n
+  unfolding placeFrom
+  place-here right a n base e = rw next (sym (chosen _ _ _ e))
+
+  pub place-on : (right : Right) (a n base : ℕ)
+      → grantsRange (getD ws i zeroWindow) right a n ≡ false
+      → placeFrom (base + getD ws i zeroWindow .length) (drop (i + 1) ws) right a n ≡ placeFrom base (drop i ws) right a n
+  unfolding placeFrom
+  place-on right a n base e = rw next (sym (passed _ _ _ e))
+
+-- the same of the first count windows
+module _ (count : ℕ) (ws : List Window) (fits : count ≤ length ws) (i : ℕ) (h : i < count) where
+  next-counted : drop i (take count ws) ≡ getD ws i zeroWindow ∷ drop (i + 1) (take count ws)
+  next-counted =
+      let within : i < length (take count ws) = simp length-take (omega arith) in
+      rw (← getD-take count ws i zeroWindow h) (next (take count ws) i within)
+
+  pub rising-on : (from : ℕ) → soundWindow (getD ws i zeroWindow) ≡ true → from ≤ getD ws i zeroWindow .first
+      → soundAndRising (endOf (getD ws i zeroWindow)) (drop (i + 1) (take count ws)) ≡ soundAndRising from (drop i (take count ws))
+  unfolding allSound rising
+  rising-on from sound after = rw next-counted (simp (sound, le-leb _ _ after))
+
+  pub rising-fails : (from : ℕ) → (soundWindow (getD ws i zeroWindow) ≡ true → from ≤ getD ws i zeroWindow .first → ⊥)
+      → false ≡ soundAndRising from (drop i (take count ws))
+  unfolding allSound rising
+  rising-fails from never =
+      refuted _ (λ e.
+      let parts = both _ _ (rw next-counted at e) in
+      never (both _ _ (parts .0) .0) (leb-true _ _ (both _ _ (parts .1) .0)))
+
+-- to make the window past those kept all zero is to keep it
+pub kept-on : (ws : List Window) (i : ℕ) → i < length ws → i < 8 → keptOf (i + 1) (set ws i zeroWindow) ≡ keptOf i ws
+unfolding keptOf
+kept-on ws i h below =
+    let left : 8 - i ≡ suc (8 - (i + 1)) = omega arith in
+    rw (left, add-one, take-suc-set ws i zeroWindow h, append-snoc)
+
+-- once all are kept, nothing changes
+pub kept-all : (ws : List Window) (i : ℕ) → length ws ≤ i → 8 ≤ i → ws ≡ keptOf i ws
+unfolding keptOf
+kept-all ws i h above =
+    let none : 8 - i ≡ 0 = omega arith in
+    rw (none, take-all i ws h) (sym (append-nil ws))

@@ -1,0 +1,3 @@
+pub mod Laws
+pub mod Left
+pub mod Parts

@@ -1,0 +1,161 @@
+// Windows: what a map grants, which maps are good, and where a granted range lies in the lent memory.
+ghost use mathlib.Core.Path.{_≡_};
+ghost use Prim.Native.Nat.{_≤_};
+ghost use lib.ListN.{take};
+ghost use Rattle.windows.specs.Window.{numberOf, grantsRange, placeOf, sumOf};
+ghost use Rattle.windows.specs.Map.{soundWindow, soundAndRising, goodMap, keptOf};
+
+// A stretch of addresses, and the sum of the numbers of its rights.
+pub struct Window {
+    pub first: u32,
+    pub length: u32,
+    pub rights: u32,
+}
+
+// What a window may be used for.
+pub enum Right {
+    Load,
+    Set,
+    Entry,
+}
+
+// Where a range lies in the lent memory.
+pub enum Place {
+    At(usize),
+    Nowhere,
+}
+
+// The number of a right.
+fn number(right: Right) -> u32
+    ensures { λ r. ⌜ r ≡ numberOf right ⌝ }
+{
+    match right {
+        Right::Load => 1,
+        Right::Set => 2,
+        Right::Entry => 4,
+    }
+}
+
+// Does the window grant the right to a range of size bytes at an address?
+pub fn grants(window: Window, right: Right, address: u32, size: u32) -> bool
+    ensures { λ r. ⌜ r ≡ grantsRange window right address size ⌝ }
+{
+    if window.rights / number(right) % 2 != 1 {
+        return false;
+    }
+    if address < window.first {
+        return false;
+    }
+    let end = (window.first as u64) + (window.length as u64);
+    let at = address as u64;
+    if end <= at {
+        return false;
+    }
+    if end < at + (size as u64) {
+        return false;
+    }
+    true
+}
+
+// Where a range lies, by the first window that grants it.
+pub fn locate(windows: [Window; 8], right: Right, address: u32, size: u32) -> Place
+    ensures { λ r. ⌜ r ≡ placeOf windows right address size ⌝ }
+{
+    let mut base: usize = 0;
+    let mut i: usize = 0;
+    while i < 8 {
+        let window = windows[i];
+        if grants(window, right, address, size) {
+            return Place::At(base + ((address - window.first) as usize));
+        }
+        base = base + (window.length as usize);
+        i = i + 1;
+    }
+    Place::Nowhere
+}
+
+// How many bytes the windows have together: the length of the lent memory.
+pub fn sum(windows: [Window; 8]) -> usize
+    ensures { λ r. ⌜ r ≡ sumOf windows ⌝ }
+{
+    let mut total: usize = 0;
+    let mut i: usize = 0;
+    while i < 8 {
+        let window = windows[i];
+        total = total + (window.length as usize);
+        i = i + 1;
+    }
+    total
+}
+
+// The first count windows; those past them become all zero.
+pub fn kept(count: usize, windows: [Window; 8]) -> [Window; 8]
+    ensures { λ r. ⌜ r ≡ keptOf count windows ⌝ }
+{
+    let empty = Window {
+        first: 0,
+        length: 0,
+        rights: 0,
+    };
+    let mut left = windows;
+    let mut i = count;
+    while i < 8 {
+        left[i] = empty;
+        i = i + 1;
+    }
+    left
+}
+
+// Is the window sound by itself?
+fn is_sound(window: Window) -> bool
+    ensures { λ r. ⌜ r ≡ soundWindow window ⌝ }
+{
+    if window.length == 0 {
+        return false;
+    }
+    if 4294967296 < (window.first as u64) + (window.length as u64) {
+        return false;
+    }
+    if window.rights < 1 {
+        return false;
+    }
+    window.rights <= 7
+}
+
+// Are the first count windows sound, and do they rise with no overlap?
+fn sound_and_rising(count: usize, windows: [Window; 8]) -> bool
+    requires { ⌜ count ≤ 8 ⌝ }
+    ensures { λ r. ⌜ r ≡ soundAndRising 0 (take count windows) ⌝ }
+{
+    let mut end: u64 = 0;
+    let mut i: usize = 0;
+    while i < count {
+        let window = windows[i];
+        let first = window.first as u64;
+        if first < end {
+            return false;
+        }
+        if !is_sound(window) {
+            return false;
+        }
+        end = first + (window.length as u64);
+        i = i + 1;
+    }
+    true
+}
+
+// Is the map of the first count windows good?
+pub fn is_good(count: usize, windows: [Window; 8]) -> bool
+    ensures { λ r. ⌜ r ≡ goodMap count windows ⌝ }
+{
+    if count < 1 {
+        return false;
+    }
+    if 8 < count {
+        return false;
+    }
+    if sound_and_rising(count, windows) {
+        return sum(kept(count, windows)) <= 65536;
+    }
+    false
+}

@@ -1,0 +1,25 @@
+-- Bytes and the number that they make. Each law is one step of the definition, or follows by induction over the list.
+use Prim.Native.Nat.{ℕ, _+_, _*_, _%_, _<_}
+use mathlib.Core.Path.{_≡_, refl}
+use mathlib.Core.List.{List, [], _∷_}
+use native.Mathlib.Nat.{mod-eq-of-lt}
+use native.Mathlib.Omega.{arith}
+use lib.ListN.{getD, take}
+use Rattle.words.specs.Bits.{join}
+use Rattle.words.specs.Bytes.{number}
+
+-- the number of the first four bytes, written out; those that are missing count as 0
+four : (s : List ℕ) →
+    number (take 4 s) ≡ getD s 0 0 % 256 + 256 * (getD s 1 0 % 256) + 65536 * (getD s 2 0 % 256 + 256 * (getD s 3 0 % 256))
+unfolding number join
+four [] = refl
+four (a ∷ []) = omega arith
+four (a ∷ b ∷ []) = omega arith
+four (a ∷ b ∷ c ∷ []) = omega arith
+four (a ∷ b ∷ c ∷ d ∷ s) = omega arith
+
+pub number-four : (s : List ℕ) {a b c d : ℕ} → a ≡ getD s 0 0 → b ≡ getD s 1 0 → c ≡ getD s 2 0 → d ≡ getD s 3 0
+    → a < 256 → b < 256 → c < 256 → d < 256
+    → a + 256 * b + 65536 * (c + 256 * d) ≡ number (take 4 s)
+number-four s p q r t a< b< c< d< =
+    rw (four s, ← p, ← q, ← r, ← t, mod-eq-of-lt a<, mod-eq-of-lt b<, mod-eq-of-lt c<, mod-eq-of-lt d<)

@@ -1,0 +1,45 @@
+-- What a write does to a list of bytes: its length stays, the bytes in the range are those written, all others are kept. By induction over
+-- the number of bytes.
+use Prim.Native.Nat.{ℕ, zero, suc, _+_, _≤_, _<_}
+use mathlib.Core.Path.{_≡_, refl, _∙_}
+use mathlib.Core.List.{List}
+use mathlib.Core.Logic.{_≢_}
+use native.Mathlib.Decide.{ℕ-discrete}
+use native.Mathlib.Numerals.{add-one}
+use native.Mathlib.Omega.{arith}
+use lib.ListN.{length, getD, set, length-set}
+use lib.Seq.{set-out, getD-set-same, getD-set-other}
+use Rattle.words.specs.Bytes.{put}
+
+pub length-put : (m : List ℕ) (at n : ℕ) (f : ℕ → ℕ) → length (put m at n f) ≡ length m
+unfolding put
+length-put m at zero f = refl
+length-put m at (suc n) f = length-set (put m at n f) (at + n) (f n) ∙ length-put m at n f
+
+-- one byte more
+pub put-more : (m : List ℕ) (at n : ℕ) (f : ℕ → ℕ) → put m at (n + 1) f ≡ set (put m at n f) (at + n) (f n)
+unfolding put
+put-more m at n f = rw add-one refl
+
+-- past the end nothing is written
+pub put-past : (m : List ℕ) (at n : ℕ) (f : ℕ → ℕ) → length m ≤ at → put m at n f ≡ m
+unfolding put
+put-past m at zero f h = refl
+put-past m at (suc n) f h = rw (put-past m at n f h) (set-out m (at + n) (f n) (omega arith))
+
+-- a byte of the range is the one written there
+pub put-inside : (m : List ℕ) (at n : ℕ) (f : ℕ → ℕ) (j : ℕ) → j < n → at + j < length m → getD (put m at n f) (at + j) 0 ≡ f j
+unfolding put
+put-inside m at zero f j h l = omega arith
+put-inside m at (suc n) f j h l = go (ℕ-discrete j n) (λ k. put-inside m at n f j k l)
+  where
+    go : Dec (j ≡ n) → (j < n → getD (put m at n f) (at + j) 0 ≡ f j) → getD (set (put m at n f) (at + n) (f n)) (at + j) 0 ≡ f j
+    go (yes e) before = rw e (getD-set-same (put m at n f) (at + n) (f n) 0 (rw (length-put, ← e) l))
+    go (no e) before = getD-set-other (put m at n f) (at + n) (at + j) (f n) 0 (omega arith) ∙ before (omega arith)
+
+-- every other byte is kept
+pub put-outside : (m : List ℕ) (at n : ℕ) (f : ℕ → ℕ) (k : ℕ) → ((j : ℕ) → j < n → k ≢ at + j) → getD (put m at n f) k 0 ≡ getD m k 0
+unfolding put
+put-outside m at zero f k out = refl
+put-outside m at (suc n) f k out =
+    getD-set-other (put m at n f) (at + n) k (f n) 0 (out n (omega arith)) ∙ put-outside m at n f k (λ j h. out j (omega arith))

@@ -1,0 +1,63 @@
+-- Bytes of a number, little-endian reading and writing at a place of a list of bytes, and units of 1, 2 and 4 bytes.
+use Prim.Native.Nat.{ℕ, zero, suc, _+_, _*_, _/_, _%_, _^_}
+use mathlib.Core.Bool.{Bool, _&&_}
+use mathlib.Core.List.{List, [], _∷_}
+use lib.Dec.{leb, ltb}
+use lib.ListN.{length, getD, set, take, drop}
+use Rattle.words.specs.Bits.{bit, join, withField}
+use Rattle.words.specs.Choice.{pick}
+use Rattle.words.specs.declared.Unit.{Unit as UnitOf}
+use Rattle.words.specs.declared.Unit.the-variants.{One, Two, Four}
+use Rattle.words.specs.declared.Reading.{Reading}
+use Rattle.words.specs.declared.Reading.the-variants.{Whole, Cut, Ended}
+
+-- byte i of a number; byte 0 is the lowest
+unfoldable pub byte : ℕ → ℕ → ℕ
+byte v i = v / 2 ^ (8 * i) % 256
+
+-- the number that bytes make, the lowest first
+unfoldable pub number : List ℕ → ℕ
+number [] = 0
+number (b ∷ bs) = join 8 b (number bs)
+
+-- the n bytes of a list from a place on; fewer where the list ends before
+unfoldable pub bytesAt : List ℕ → ℕ → ℕ → List ℕ
+bytesAt m at n = take n (drop at m)
+
+-- m with f 0 .. f (n - 1) at the places from at on; what would lie past the end is not written
+unfoldable pub put : List ℕ → ℕ → ℕ → (ℕ → ℕ) → List ℕ
+put m at zero f = m
+put m at (suc n) f = set (put m at n f) (at + n) (f n)
+
+-- bit p of memory: the bytes lowest address first, each byte lowest bit first
+unfoldable pub bitAt : List ℕ → ℕ → ℕ
+bitAt m p = bit (getD m (p / 8) 0) (p % 8)
+
+-- a unit's bytes
+abbrev pub sizeOf : UnitOf → ℕ
+sizeOf One = 1
+sizeOf Two = 2
+sizeOf Four = 4
+
+-- do n bytes from a place on lie inside a list?
+unfoldable pub fits : List ℕ → ℕ → ℕ → Bool
+fits m at n = leb (at + n) (length m)
+
+-- a unit read at a place: its number; or the list ends inside it, or before its first byte
+unfoldable pub readOf : List ℕ → ℕ → UnitOf → Reading
+readOf m at u =
+    pick (fits m at (sizeOf u)) (Whole (number (bytesAt m at (sizeOf u))))
+    (pick (ltb at (length m)) Cut Ended)
+
+-- a list with the low bytes of v written as a unit at a place, or as it was where the unit does not fit
+unfoldable pub written : List ℕ → ℕ → UnitOf → ℕ → List ℕ
+written m at u v = pick (fits m at (sizeOf u)) (put m at (sizeOf u) (byte v)) m
+
+-- do the n bits from s on lie in the unit at a place, and the unit in the list?
+unfoldable pub fieldFits : List ℕ → ℕ → UnitOf → ℕ → ℕ → Bool
+fieldFits m at u s n = fits m at (sizeOf u) && leb (s + n) (8 * sizeOf u)
+
+-- a list with the n bits from s on of the unit at a place taken from the low n bits of d, or as it was where they do not fit
+unfoldable pub fieldWritten : List ℕ → ℕ → UnitOf → ℕ → ℕ → ℕ → List ℕ
+fieldWritten m at u s n d =
+    pick (fieldFits m at u s n) (put m at (sizeOf u) (byte (withField (number (bytesAt m at (sizeOf u))) s n d))) m
