@@ -10,6 +10,7 @@ use Rattle.words.proofs.byte_of.Reads as byte_of
 use Rattle.words.proofs.number_of.Reads as number_of
 use Rattle.words.proofs.read.Reads as read
 use Rattle.words.proofs.put_byte.Reads as put_byte
+use Rattle.words.proofs.word_at.Reads as word_at
 use Rattle.words.proofs.write.Reads as write
 use Rattle.words.proofs.write_field.Reads as write_field
 use Rattle.checksum.proofs.feed_word.Reads as feed_word
@@ -30,6 +31,10 @@ use Rattle.commands.proofs.boot_table.Reads as boot_table
 use Rattle.commands.proofs.jump.Reads as jump
 use Rattle.commands.proofs.jump_and_close.Reads as jump_and_close
 use Rattle.commands.proofs.seek.Reads as seek
+use Rattle.flash.proofs.Session.«open».Reads as flash-opening
+use Rattle.flash.proofs.Session.step.Reads as flash-step
+use Rattle.runs.proofs.run.Reads as run
+use Rattle.checking.proofs.check.Reads as check
 
 module _ {K : Type 0} {A R E : K → Type 0} (Post : (κs : K) → A κs → R κs → E κs → Type 0) where
   -- any two outcomes that a contract allows at the same arguments agree
@@ -68,6 +73,9 @@ number-of-unique κs a r s e f = same
 
 pub read-unique : OneResult read.Post
 read-unique κs a r s e f = same
+
+pub word-at-unique : OneResult word_at.Post
+word-at-unique κs a r s e f = same
 
 pub put-byte-unique : OneMemory put_byte.Post (λ κs e. now (e .0))
 put-byte-unique κs a r s e f = same
@@ -135,3 +143,18 @@ jump-and-close-unique κs a r s e f = same
 
 pub seek-unique : OneResult seek.Post
 seek-unique κs a r s e f = same
+
+-- flash
+pub flash-open-unique : OneResult flash-opening.Post
+flash-open-unique κs a r s e f = same
+
+pub flash-step-unique : OneResultAndMemory flash-step.Post (λ κs e. now (e .1 .0))
+flash-step-unique κs a r s e f = both-same
+
+-- runs
+pub run-unique : OneResultAndMemory run.Post (λ κs e. now (e .1 .0))
+run-unique κs a r s e f = both-same
+
+-- checking
+pub check-unique : OneResult check.Post
+check-unique κs a r s e f = same

@@ -4,16 +4,12 @@ use mathlib.Core.List.{List}
 use mathlib.Core.Path.{_≡_, ap, ap₂, _∙_}
 use native.Mathlib.Omega.{arith}
 use lib.ListN.{length, take, drop, length-take, length-drop}
-use lib.Seq.{drop-drop, take-all}
+use lib.Seq.{drop-drop}
 use Rattle.words.specs.Bytes.{number}
 use Rattle.checksum.specs.Checksum.{fed}
 use Rattle.commands.specs.Commands.{wordsFed}
 
 module _ (bytes : List ℕ) (at : ℕ) where
-  -- the part of a slice from a place on is what is left of its list
-  pub from-place : take (length bytes - at) (drop at bytes) ≡ drop at bytes
-  from-place = take-all (length bytes - at) (drop at bytes) (simp length-drop (omega arith))
-
   -- the next word takes four bytes, or those that are left
   pub next-word : (r : ℕ) → at < length bytes
       → wordsFed r ((length bytes - at + 3) / 4) (drop at bytes)

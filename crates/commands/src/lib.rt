@@ -97,16 +97,24 @@ pub fn judge_load(windows: [Window; 8], address: u32, size: u32) -> Judged
     judge_range(windows, Right::Load, address, size)
 }
 
-// The bytes of a load, lowest address first.
+// The smaller of two numbers.
+fn least(a: usize, b: usize) -> usize
+    ensures { λ r. ⌜ r ≡ min a b ⌝ }
+{
+    if a < b { a } else { b }
+}
+
+// The bytes of a load, lowest address first; none past the end.
 fn copy(memory: &mut [u8], place: usize, bytes: &[u8])
     ensures { λ _. ⌜ now (memory .exit) ≡ loaded (now (memory .entry)) place (now (bytes .entry)) ⌝ }
 {
     if memory.len() <= place {
         return;
     }
+    let n = least(bytes.len(), memory.len() - place);
     let mut i: usize = 0;
-    while i < bytes.len() {
-        words::put_byte(memory, place + i, bytes[i]);
+    while i < n {
+        memory[place + i] = bytes[i];
         i += 1;
     }
 }
@@ -177,7 +185,7 @@ fn judge_fill(windows: [Window; 8], address: u32, size: u32, kind: u32) -> Judge
     judge_range(windows, Right::Load, address, size)
 }
 
-// The pattern's bytes, each by the remainder of its place in the unit.
+// The pattern's bytes, each by the remainder of its place in the unit; none past the end.
 fn fill_bytes(memory: &mut [u8], place: usize, size: u32, kind: u32, pattern: u32)
     requires { ⌜ kind ≤ 2 ⌝ }
     ensures { λ _. ⌜ now (memory .exit) ≡ filled (now (memory .entry)) place size kind pattern ⌝ }
@@ -185,14 +193,11 @@ fn fill_bytes(memory: &mut [u8], place: usize, size: u32, kind: u32, pattern: u3
     if memory.len() <= place {
         return;
     }
-    let unit = unit_bytes(kind);
-    let mut i: u32 = 0;
-    while i < size {
-        words::put_byte(
-            memory,
-            place + (i as usize),
-            words::byte_of(pattern, i % unit),
-        );
+    let unit = unit_bytes(kind) as usize;
+    let n = least(size as usize, memory.len() - place);
+    let mut i: usize = 0;
+    while i < n {
+        memory[place + i] = ((pattern >> (8 * (i % unit))) % 256) as u8;
         i += 1;
     }
 }

@@ -3,7 +3,7 @@
 use Prim.Native.Nat.{ℕ, zero, suc, _+_, _*_, _/_, _%_, _^_, _≤_, _<_}
 use mathlib.Core.Bool.{Bool, true, false, _&&_}
 use mathlib.Core.List.{List}
-use mathlib.Core.Path.{_≡_, refl, sym, subst, _∙_}
+use mathlib.Core.Path.{_≡_, sym, subst, _∙_}
 use native.Mathlib.Omega.{arith}
 use lib.Dec.{leb, lit≤}
 use lib.ListN.{length, getD}
@@ -23,7 +23,7 @@ use Rattle.windows.specs.declared.Place.the-variants.{At, Nowhere}
 use Rattle.windows.specs.declared.Right.{Right}
 use Rattle.windows.specs.declared.Window.{Window}
 use Rattle.windows.proofs.Laws.{placed-inside}
-use Rattle.words.proofs.Choice.{both}
+use Rattle.words.proofs.Choice.{both, of-choice}
 use Rattle.script.specs.declared.Refusal.{Refusal}
 use Rattle.commands.specs.Commands.{placed, rangeJudged, loadJudged, loaded, fillJudged, filled, fillMemory, startOf, stopOf, fieldShape, shapeOf, unitJudged, shapeJudged, shapeSet, settingMemory}
 use Rattle.commands.specs.declared.Judged.{Judged}
@@ -55,12 +55,6 @@ field-does m place unit start width value lie fit =
       same-length = length-put m place (sizeOf unit) _;
       each-bit = λ p h. bit-written m place (sizeOf unit) start width value p fit lie h;
     })
-
--- what holds of both sides of a choice, each under its test, holds of the choice
-of-choice : {A : Type 0} (P : A → Type 0) (t : Bool) {a b : A} → (t ≡ true → P a) → (t ≡ false → P b) → P (pick t a b)
-unfolding pick
-of-choice P true held failed = held refl
-of-choice P false held failed = failed refl
 
 -- the bits of a shape lie in its unit
 abbrev Lies : Shape → Type 0

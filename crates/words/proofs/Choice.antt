@@ -28,3 +28,9 @@ both false b e = absurd (true≢false (sym e))
 pub refuted : (t : Bool) → (t ≡ true → ⊥) → false ≡ t
 refuted true never = absurd (never refl)
 refuted false never = refl
+
+-- what holds of both sides of a choice, each under its test, holds of the choice
+pub of-choice {ℓ} : {A : Type 0} (P : A → Type ℓ) (t : Bool) {a b : A} → (t ≡ true → P a) → (t ≡ false → P b) → P (pick t a b)
+unfolding pick
+of-choice P true held failed = held refl
+of-choice P false held failed = failed refl

@@ -1,10 +1,11 @@
 -- Bytes and the number that they make. Each law is one step of the definition, or follows by induction over the list.
-use Prim.Native.Nat.{ℕ, _+_, _*_, _%_, _<_}
+use Prim.Native.Nat.{ℕ, _+_, _-_, _*_, _%_, _<_}
 use mathlib.Core.Path.{_≡_, refl}
 use mathlib.Core.List.{List, [], _∷_}
 use native.Mathlib.Nat.{mod-eq-of-lt}
 use native.Mathlib.Omega.{arith}
-use lib.ListN.{getD, take}
+use lib.ListN.{length, getD, take, drop, length-drop}
+use lib.Seq.{take-all}
 use Rattle.words.specs.Bits.{join}
 use Rattle.words.specs.Bytes.{number}
 
@@ -23,3 +24,7 @@ pub number-four : (s : List ℕ) {a b c d : ℕ} → a ≡ getD s 0 0 → b ≡ 
     → a + 256 * b + 65536 * (c + 256 * d) ≡ number (take 4 s)
 number-four s p q r t a< b< c< d< =
     rw (four s, ← p, ← q, ← r, ← t, mod-eq-of-lt a<, mod-eq-of-lt b<, mod-eq-of-lt c<, mod-eq-of-lt d<)
+
+-- the part of a slice from a place on is what is left of its list
+pub from-place : (s : List ℕ) (at : ℕ) → take (length s - at) (drop at s) ≡ drop at s
+from-place s at = take-all (length s - at) (drop at s) (simp length-drop (omega arith))

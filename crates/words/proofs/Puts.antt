@@ -1,10 +1,11 @@
 -- What a write does to a list of bytes: its length stays, the bytes in the range are those written, all others are kept. By induction over
 -- the number of bytes.
-use Prim.Native.Nat.{ℕ, zero, suc, _+_, _≤_, _<_}
-use mathlib.Core.Path.{_≡_, refl, _∙_}
+use Prim.Native.Nat.{ℕ, zero, suc, _+_, _-_, _≤_, _<_, min}
+use mathlib.Core.Path.{_≡_, refl, sym, ap, _∙_}
 use mathlib.Core.List.{List}
 use mathlib.Core.Logic.{_≢_}
-use native.Mathlib.Decide.{ℕ-discrete}
+use native.Mathlib.Decide.{ℕ-discrete, decLt}
+use native.Mathlib.Nat.{zero-min}
 use native.Mathlib.Numerals.{add-one}
 use native.Mathlib.Omega.{arith}
 use lib.ListN.{length, getD, set, length-set}
@@ -26,6 +27,21 @@ pub put-past : (m : List ℕ) (at n : ℕ) (f : ℕ → ℕ) → length m ≤ at
 unfolding put
 put-past m at zero f h = refl
 put-past m at (suc n) f h = rw (put-past m at n f h) (set-out m (at + n) (f n) (omega arith))
+
+-- a count that would pass the end may stop there
+pub put-clamped : (m : List ℕ) (at n : ℕ) (f : ℕ → ℕ) → put m at n f ≡ put m at (min n (length m - at)) f
+unfolding put
+put-clamped m at zero f = rw zero-min refl
+put-clamped m at (suc n) f = go (decLt (at + n) (length m)) (put-clamped m at n f)
+  where
+    go : Dec (at + n < length m) → put m at n f ≡ put m at (min n (length m - at)) f
+        → set (put m at n f) (at + n) (f n) ≡ put m at (min (suc n) (length m - at)) f
+    go (yes h) before =
+        let all : min (suc n) (length m - at) ≡ suc n = omega arith in
+        rw all
+    go (no h) before =
+        let same : min (suc n) (length m - at) ≡ min n (length m - at) = omega arith in
+        set-out (put m at n f) (at + n) (f n) (rw length-put (omega arith)) ∙ before ∙ ap (λ (k : ℕ). put m at k f) (sym same)
 
 -- a byte of the range is the one written there
 pub put-inside : (m : List ℕ) (at n : ℕ) (f : ℕ → ℕ) (j : ℕ) → j < n → at + j < length m → getD (put m at n f) (at + j) 0 ≡ f j

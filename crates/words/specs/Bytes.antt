@@ -24,6 +24,10 @@ number (b ∷ bs) = join 8 b (number bs)
 unfoldable pub bytesAt : List ℕ → ℕ → ℕ → List ℕ
 bytesAt m at n = take n (drop at m)
 
+-- the number of the four bytes from a place on; those past the end count as 0
+unfoldable pub wordAt : List ℕ → ℕ → ℕ
+wordAt m at = number (bytesAt m at 4)
+
 -- m with f 0 .. f (n - 1) at the places from at on; what would lie past the end is not written
 unfoldable pub put : List ℕ → ℕ → ℕ → (ℕ → ℕ) → List ℕ
 put m at zero f = m

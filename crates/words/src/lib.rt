@@ -4,7 +4,7 @@ ghost use mathlib.Core.Bool.{true};
 ghost use Prim.Native.Nat.{_+_, _≤_, _<_, _^_};
 ghost use lib.ListN.{length, take, getD, set};
 ghost use Rattle.words.specs.Bits.{bit, join, withField};
-ghost use Rattle.words.specs.Bytes.{byte, number, put, sizeOf, fits, fieldFits, readOf, written, fieldWritten};
+ghost use Rattle.words.specs.Bytes.{byte, number, put, sizeOf, fits, fieldFits, readOf, written, fieldWritten, wordAt};
 
 // A unit of 1, 2 or 4 bytes.
 pub enum Unit {
@@ -65,6 +65,13 @@ pub fn number_of(s: &[u8]) -> u32
     let low = byte_at(s, 0) as u32 + 256 * (byte_at(s, 1) as u32);
     let high = byte_at(s, 2) as u32 + 256 * (byte_at(s, 3) as u32);
     low + 65536 * high
+}
+
+// The number of the four bytes from a place on; those that are missing count as 0.
+pub fn word_at(s: &[u8], at: usize) -> u32
+    ensures { λ r. ⌜ r ≡ wordAt (now (s .entry)) at ⌝ }
+{
+    if at < s.len() { number_of(&s[at..]) } else { 0 }
 }
 
 // The unit at a place.

@@ -1,37 +1,44 @@
--- `commands::copy` meets its contract: after i turns the first i bytes are written; a place past the end takes none.
-use Prim.Native.Nat.{_-_, _≤_}
-use mathlib.Core.Path.{_≡_, sym}
+-- `commands::copy` meets its contract: after i turns the first i bytes are written, and those that would pass the end are none.
+use Prim.Native.Nat.{ℕ, _-_, _≤_, min}
+use mathlib.Core.Path.{_≡_, sym, ap, _∙_}
 use lib.ListN.{length, getD}
 use Rattle.words.specs.Bytes.{put}
 use borrow.Author.Needs.{needs}
 use native.Mathlib.Omega.{arith}
-use Rattle.words.proofs.Puts.{length-put, put-more, put-past}
+use denote.Ref.{now}
+use Rattle.words.proofs.Puts.{length-put, put-more, put-past, put-clamped}
 use Rattle.commands.specs.Commands.{loaded}
 use Rattle.commands.proofs.copy.Statement.{statement}
 use Rattle.commands.proofs.copy.Tie as tie
 
 abbrev Inv-loop : tie.InvT-loop
-Inv-loop memory₀ place bytes i₀ memory i = (i ≤ length bytes) × (memory ≡ put memory₀ place i (λ k. getD bytes k 0))
+Inv-loop memory₀ place bytes n i₀ memory i = (i ≤ n) × (memory ≡ put memory₀ place i (λ k. getD bytes k 0))
 
 abbrev μ-loop : tie.MeasureT-loop
-μ-loop memory₀ place bytes i₀ memory i = length bytes - i
+μ-loop memory₀ place bytes n i₀ memory i = n - i
 
 returns : tie.Need-returns Inv-loop μ-loop
 unfolding loaded
 returns c = sym (put-past _ _ _ _ (c .if1 .taken))
 
+sub-least : tie.Need-sub-least Inv-loop μ-loop
+sub-least c = search needs
+
+least-requires : tie.Need-least-requires Inv-loop μ-loop
+least-requires c κs = search needs
+
 loop-holds : tie.Need-loop-holds Inv-loop μ-loop
 unfolding put
 loop-holds c = search needs
 
-add-put-byte : tie.Need-add-put-byte Inv-loop μ-loop
-add-put-byte c = search needs
+shared-slice-read-memory : tie.Need-shared-slice-read-memory Inv-loop μ-loop
+shared-slice-read-memory c = search needs
 
-shared-slice-read-put-byte : tie.Need-shared-slice-read-put-byte Inv-loop μ-loop
-shared-slice-read-put-byte c = search needs
+add-memory : tie.Need-add-memory Inv-loop μ-loop
+add-memory c = search needs
 
-put-byte-requires : tie.Need-put-byte-requires Inv-loop μ-loop
-put-byte-requires c κs = search needs
+slice-write-memory : tie.Need-slice-write-memory Inv-loop μ-loop
+slice-write-memory c = rw (c .before .before .loop .inv .1, length-put) (omega arith)
 
 add-i : tie.Need-add-i Inv-loop μ-loop
 add-i c = search needs
@@ -40,9 +47,7 @@ loop-less : tie.Need-loop-less Inv-loop μ-loop
 loop-less c = search needs
 
 loop-again : tie.Need-loop-again Inv-loop μ-loop
-loop-again c =
-    let inv = c .before .before .before .before .before .before .loop .inv in
-    (omega arith, rw (put-more, ← (inv .1)) (c .before .before .put-byte .ensures))
+loop-again c = (omega arith, rw (put-more, ← (c .before .before .loop .inv .1)))
 
 same-length : tie.Need-same-length Inv-loop μ-loop
 same-length c = rw (c .before .loop .inv .1) (length-put _ _ _ _)
@@ -50,8 +55,10 @@ same-length c = rw (c .before .loop .inv .1) (length-put _ _ _ _)
 returns-2 : tie.Need-returns-2 Inv-loop μ-loop
 unfolding loaded
 returns-2 c =
-    let all : c .before .loop .i ≡ length (c .before .before .before .before .before .args .bytes .now) = omega arith in
-    rw (← all) (c .before .loop .inv .1)
+    let a = c .before .before .before .before .before .before .args in
+    let all : c .before .loop .i ≡ min (length (now (a .bytes))) (length (now (a .memory)) - a .place) = omega arith in
+    c .before .loop .inv .1 ∙ ap (λ (k : ℕ). put (now (a .memory)) (a .place) k (λ (i : ℕ). getD (now (a .bytes)) i 0)) all
+    ∙ sym (put-clamped (now (a .memory)) (a .place) (length (now (a .bytes))) (λ (i : ℕ). getD (now (a .bytes)) i 0))
 
 pub copy-spec : {M : Type 1} → statement M
 copy-spec =
@@ -60,10 +67,12 @@ copy-spec =
     Inv-loop
     μ-loop
     returns
+    sub-least
+    least-requires
     loop-holds
-    add-put-byte
-    shared-slice-read-put-byte
-    put-byte-requires
+    shared-slice-read-memory
+    add-memory
+    slice-write-memory
     add-i
     loop-less
     loop-again

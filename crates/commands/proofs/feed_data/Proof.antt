@@ -7,8 +7,9 @@ use borrow.Author.Needs.{needs}
 use native.Mathlib.Nat.{sub-zero}
 use denote.Ref.{now}
 use Rattle.words.specs.Bytes.{number}
+use Rattle.words.proofs.Numbers.{from-place}
 use Rattle.checksum.specs.Checksum.{fed}
-use Rattle.commands.proofs.Feeding.{from-place, next-word, no-word}
+use Rattle.commands.proofs.Feeding.{next-word, no-word}
 use Rattle.commands.proofs.feed_data.Statement.{statement}
 use Rattle.commands.proofs.feed_data.Tie as tie
 

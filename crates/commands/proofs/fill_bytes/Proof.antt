@@ -1,21 +1,29 @@
--- `commands::fill_bytes` meets its contract: after i turns the first i bytes are written; a place past the end takes none.
-use Prim.Native.Nat.{ℕ, _+_, _-_, _%_, _≤_}
+-- `commands::fill_bytes` meets its contract: after i turns the first i bytes are written, and those that would pass the end are none.
+use Prim.Native.Nat.{ℕ, _-_, _%_, _≤_, min, _<_}
 use mathlib.Core.Path.{_≡_, sym, ap, _∙_}
+use lib.ListN.{length}
 use Rattle.words.specs.Bytes.{byte, put}
 use Rattle.commands.specs.Commands.{unitOf, filled}
 use borrow.Author.Needs.{needs}
 use native.Mathlib.Omega.{arith}
-use lib.ListN.{set}
-use lib.Pow.{pow-pos}
-use Rattle.words.proofs.Puts.{length-put, put-more, put-past}
+use denote.Ref.{now}
+use lib.Pow.{pow-pos, pow-mono}
+use Rattle.words.proofs.Puts.{length-put, put-more, put-past, put-clamped}
+use native.Mathlib.Nat.{mod-lt, lt-of-lt-of-le}
 use Rattle.commands.proofs.fill_bytes.Statement.{statement}
 use Rattle.commands.proofs.fill_bytes.Tie as tie
 
 abbrev Inv-loop : tie.InvT-loop
-Inv-loop memory₀ place size kind pattern unit i₀ memory i = (i ≤ size) × (memory ≡ put memory₀ place i (λ k. byte pattern (k % unitOf kind)))
+Inv-loop memory₀ place size kind pattern unit n i₀ memory i = (i ≤ n) × (memory ≡ put memory₀ place i (λ k. byte pattern (k % unitOf kind)))
 
 abbrev μ-loop : tie.MeasureT-loop
-μ-loop memory₀ place size kind pattern unit i₀ memory i = size - i
+μ-loop memory₀ place size kind pattern unit n i₀ memory i = n - i
+
+-- a place in the unit is below four
+in-unit : (c : tie.In-loop Inv-loop μ-loop) → c .before .loop .i % (c .before .before .before .unit-bytes .result) < 4
+in-unit c =
+    rw (c .before .before .before .unit-bytes .ensures)
+    (lt-of-lt-of-le (mod-lt (c .before .loop .i) (pow-pos (c .before .before .before .before .before .before .args .kind))) (pow-mono {j = 2} (c .before .before .before .before .before .before .pre)))
 
 returns : tie.Need-returns Inv-loop μ-loop
 unfolding filled
@@ -24,24 +32,39 @@ returns c = sym (put-past _ _ _ _ (c .if1 .taken))
 unit-bytes-requires : tie.Need-unit-bytes-requires Inv-loop μ-loop
 unit-bytes-requires c κs = search needs
 
+cast-unit : tie.Need-cast-unit Inv-loop μ-loop
+cast-unit c = search needs
+
+sub-least : tie.Need-sub-least Inv-loop μ-loop
+sub-least c = search needs
+
+least-requires : tie.Need-least-requires Inv-loop μ-loop
+least-requires c κs = search needs
+
 loop-holds : tie.Need-loop-holds Inv-loop μ-loop
 unfolding put
 loop-holds c = search needs
 
-cast-put-byte : tie.Need-cast-put-byte Inv-loop μ-loop
-cast-put-byte c = search needs
+rem-memory : tie.Need-rem-memory Inv-loop μ-loop
+rem-memory c = rw (c .before .before .before .unit-bytes .ensures) (pow-pos _)
 
-add-put-byte : tie.Need-add-put-byte Inv-loop μ-loop
-add-put-byte c = search needs
+mul-memory : tie.Need-mul-memory Inv-loop μ-loop
+mul-memory c = omega (arith, in-unit c)
 
-rem-byte-of : tie.Need-rem-byte-of Inv-loop μ-loop
-rem-byte-of c = rw (c .before .before .before .unit-bytes .ensures) (pow-pos _)
+cast-memory : tie.Need-cast-memory Inv-loop μ-loop
+cast-memory c = omega (arith, in-unit c)
 
-byte-of-requires : tie.Need-byte-of-requires Inv-loop μ-loop
-byte-of-requires c κs = search needs
+shr-memory : tie.Need-shr-memory Inv-loop μ-loop
+shr-memory c = omega (arith, in-unit c)
 
-put-byte-requires : tie.Need-put-byte-requires Inv-loop μ-loop
-put-byte-requires c κs = search needs
+cast-memory-2 : tie.Need-cast-memory-2 Inv-loop μ-loop
+cast-memory-2 c = search needs
+
+add-memory : tie.Need-add-memory Inv-loop μ-loop
+add-memory c = search needs
+
+slice-write-memory : tie.Need-slice-write-memory Inv-loop μ-loop
+slice-write-memory c = rw (c .before .loop .inv .1, length-put) (omega arith)
 
 add-i : tie.Need-add-i Inv-loop μ-loop
 add-i c = search needs
@@ -50,12 +73,8 @@ loop-less : tie.Need-loop-less Inv-loop μ-loop
 loop-less c = search needs
 
 loop-again : tie.Need-loop-again Inv-loop μ-loop
-loop-again c =
-    let a = c .before .before .before .before .before .before .before .before .before .before .args in
-    let l = c .before .before .before .before .before .before .loop in
-    let unit = c .before .before .before .before .before .before .before .unit-bytes .ensures in
-    let value = c .before .before .before .byte-of .ensures ∙ ap (λ (u : ℕ). byte (a .pattern) (l .i % u)) unit in
-    (omega arith, rw (put-more, ← (l .inv .1)) (c .before .before .put-byte .ensures ∙ ap (set (l .memory) (a .place + l .i)) value))
+unfolding byte
+loop-again c = (omega arith, rw (put-more, ← (c .before .loop .inv .1), ← (c .before .before .before .unit-bytes .ensures)))
 
 same-length : tie.Need-same-length Inv-loop μ-loop
 same-length c = rw (c .before .loop .inv .1) (length-put _ _ _ _)
@@ -63,8 +82,10 @@ same-length c = rw (c .before .loop .inv .1) (length-put _ _ _ _)
 returns-2 : tie.Need-returns-2 Inv-loop μ-loop
 unfolding filled
 returns-2 c =
-    let all : c .before .loop .i ≡ c .before .before .before .before .before .args .size = omega arith in
-    rw (← all) (c .before .loop .inv .1)
+    let a = c .before .before .before .before .before .before .args in
+    let all : c .before .loop .i ≡ min (a .size) (length (now (a .memory)) - a .place) = omega arith in
+    c .before .loop .inv .1 ∙ ap (λ (k : ℕ). put (now (a .memory)) (a .place) k (λ (i : ℕ). byte (a .pattern) (i % unitOf (a .kind)))) all
+    ∙ sym (put-clamped (now (a .memory)) (a .place) (a .size) (λ (i : ℕ). byte (a .pattern) (i % unitOf (a .kind))))
 
 pub fill-bytes-spec : {M : Type 1} → statement M
 fill-bytes-spec =
@@ -74,12 +95,17 @@ fill-bytes-spec =
     μ-loop
     returns
     unit-bytes-requires
+    cast-unit
+    sub-least
+    least-requires
     loop-holds
-    cast-put-byte
-    add-put-byte
-    rem-byte-of
-    byte-of-requires
-    put-byte-requires
+    rem-memory
+    mul-memory
+    cast-memory
+    shr-memory
+    cast-memory-2
+    add-memory
+    slice-write-memory
     add-i
     loop-less
     loop-again

@@ -1,0 +1,21 @@
+-- `checking::check` meets its contract: the image is opened, run and reported, as the definition says.
+use borrow.Author.Needs.{needs}
+use Rattle.checking.specs.Report.{reportOf}
+use Rattle.checking.proofs.check.Statement.{statement}
+use Rattle.checking.proofs.check.Tie as tie
+
+open-requires : tie.Need-open-requires
+open-requires c κs = search needs
+
+answer-to-requires : tie.Need-answer-to-requires
+answer-to-requires c κs = search needs
+
+report-of-requires : tie.Need-report-of-requires
+report-of-requires c κs = search needs
+
+returns : tie.Need-returns
+unfolding reportOf
+returns c = rw (c .report-of .ensures, c .before .answer-to .ensures, c .before .before .«open» .ensures)
+
+pub check-spec : {M : Type 1} → statement M
+check-spec = tie.close (tie.spec open-requires answer-to-requires report-of-requires returns)

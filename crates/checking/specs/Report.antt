@@ -1,0 +1,40 @@
+-- What the check program reports of an image (01, "Marked examples"): one window, memory of zeros, retry limit 0, waits and calls skipped.
+use Prim.Native.Nat.{ℕ}
+use mathlib.Core.List.{List, _∷_}
+use lib.Dec.{eqb}
+use lib.ListN.{replicate}
+use Rattle.words.specs.Choice.{pick}
+use Rattle.windows.specs.Map.{zeroWindow}
+use Rattle.windows.specs.declared.Window.{Window}
+use Rattle.script.specs.Answers.{numberOf, valueOf}
+use Rattle.script.specs.declared.Event.the-variants.{Nothing}
+use Rattle.flash.specs.Opening.{openedBy}
+use Rattle.flash.specs.declared.Called.{Called}
+use Rattle.flash.specs.declared.Opened.{Opened}
+use Rattle.runs.specs.Run.{runOf}
+use Rattle.checking.specs.declared.Report.{Report}
+
+-- the window 0x80000000, length 4,096, rights 7
+abbrev pub windows : List Window
+windows = record { first = 0x80000000; length = 4096; rights = 7 } ∷ replicate 7 zeroWindow
+
+-- what is reported of the last answer: entered where nothing is refused, its entry else 0
+abbrev pub reported : Called → Report
+reported a =
+    record {
+      entered = eqb (numberOf (a .refusal)) 0;
+      code = numberOf (a .refusal);
+      at = a .at;
+      entry = pick (eqb (numberOf (a .refusal)) 0) (valueOf (a .event)) 0;
+      crc = a .session .register;
+      retries = a .session .retries;
+    }
+
+-- a refused opening is the last answer, at offset 0; else a run is
+unfoldable pub lastAnswer : List ℕ → Opened → Called
+lastAnswer image o =
+    pick (eqb (numberOf (o .refusal)) 0) (runOf (o .session) (replicate 4096 0) image .answer)
+    (record { refusal = o .refusal; event = Nothing; at = 0; session = o .session })
+
+unfoldable pub reportOf : List ℕ → Report
+reportOf image = reported (lastAnswer image (openedBy 1 windows image 0))

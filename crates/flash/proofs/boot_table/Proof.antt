@@ -1,0 +1,51 @@
+-- `flash::boot_table` meets its contract: its words are read, and it is judged and done as the definition says.
+use borrow.Author.Needs.{needs}
+use mathlib.Core.Path.{ap, _∙_}
+use denote.Ref.{now}
+use Rattle.flash.specs.Sessions.{Outcome}
+use Rattle.flash.proofs.Cases.{setting-read}
+use Rattle.flash.proofs.boot_table.Statement.{statement}
+use Rattle.flash.proofs.boot_table.Tie as tie
+
+argument-word-requires : tie.Need-argument-word-requires
+argument-word-requires c κs = search needs
+
+argument-word-requires-2 : tie.Need-argument-word-requires-2
+argument-word-requires-2 c κs = search needs
+
+argument-word-requires-3 : tie.Need-argument-word-requires-3
+argument-word-requires-3 c κs = search needs
+
+argument-word-requires-4 : tie.Need-argument-word-requires-4
+argument-word-requires-4 c κs = search needs
+
+boot-table-requires : tie.Need-boot-table-requires
+boot-table-requires c κs = search needs
+
+finish-requires : tie.Need-finish-requires
+finish-requires c κs = search needs
+
+same-length : tie.Need-same-length
+same-length c = search needs
+
+returns : tie.Need-returns
+returns c =
+    let a = c .before .before .before .before .before .before .before .before .before .before .before .before .args in
+    let read = setting-read (a .session) (now (a .memory)) (now (a .image))
+    (c .before .before .before .before .before .before .before .before .before .argument-word .ensures) (c .before .before .before .before .before .before .before .before .argument-word2 .ensures) (c .before .before .before .before .before .before .before .argument-word3 .ensures) (c .before .before .before .before .before .before .argument-word4 .ensures) in (
+      rw (c .finish .ensures, c .before .before .before .boot-table .ensures .0) (ap (λ (o : Outcome). o .answer) read),
+      c .before .before .before .boot-table .ensures .1 ∙ ap (λ (o : Outcome). o .memory) read,
+    )
+
+pub boot-table-spec : {M : Type 1} → statement M
+boot-table-spec =
+    tie.close
+    (tie.spec
+    argument-word-requires
+    argument-word-requires-2
+    argument-word-requires-3
+    argument-word-requires-4
+    boot-table-requires
+    finish-requires
+    same-length
+    returns)

@@ -1,0 +1,49 @@
+-- `flash::finish` meets its contract: the refusal's number is 0 exactly where there is none.
+use borrow.Author.Needs.{needs}
+use mathlib.Core.Path.{sym, _∙_}
+use borrow.Author.Tests.{eq-eqb, ne-eqb}
+use Rattle.words.proofs.Choice.{chosen, passed}
+use Rattle.flash.specs.Step.{after}
+use Rattle.flash.proofs.finish.Statement.{statement}
+use Rattle.flash.proofs.finish.Tie as tie
+
+number-requires : tie.Need-number-requires
+number-requires c κs = search needs
+
+mul-moved : tie.Need-mul-moved
+mul-moved c = search needs
+
+add-moved : tie.Need-add-moved
+add-moved c = search needs
+
+moved-requires : tie.Need-moved-requires
+moved-requires c κs = search needs
+
+proceed-requires : tie.Need-proceed-requires
+proceed-requires c κs = search needs
+
+returns : tie.Need-returns
+unfolding after
+returns c =
+    rw (c .proceed .ensures, c .before .moved .ensures)
+    (sym (chosen _ _ _ (eq-eqb _ _ (sym (c .before .before .before .before .number .ensures) ∙ c .before .before .before .if1 .taken))))
+
+halt-requires : tie.Need-halt-requires
+halt-requires c κs = search needs
+
+returns-2 : tie.Need-returns-2
+unfolding after
+returns-2 c = c .halt .ensures ∙ sym (passed _ _ _ (ne-eqb _ _ (rw (c .before .before .number .ensures) at (c .before .if1 .left))))
+
+pub finish-spec : {M : Type 1} → statement M
+finish-spec =
+    tie.close
+    (tie.spec
+    number-requires
+    mul-moved
+    add-moved
+    moved-requires
+    proceed-requires
+    returns
+    halt-requires
+    returns-2)

@@ -1,0 +1,61 @@
+-- `flash::load` meets its contract: its words are read, and each arm is one case of the judgement.
+use borrow.Author.Needs.{needs}
+use mathlib.Core.Path.{sym, ap, _∙_}
+use denote.Ref.{now}
+use Rattle.flash.specs.Sessions.{Outcome}
+use Rattle.flash.proofs.Cases.{load-read}
+use Rattle.flash.proofs.load.Statement.{statement}
+use Rattle.flash.proofs.load.Tie as tie
+
+argument-word-requires : tie.Need-argument-word-requires
+argument-word-requires c κs = search needs
+
+argument-word-requires-2 : tie.Need-argument-word-requires-2
+argument-word-requires-2 c κs = search needs
+
+judge-load-requires : tie.Need-judge-load-requires
+judge-load-requires c κs = search needs
+
+enum-known-judged : tie.Need-enum-known-judged
+enum-known-judged c = search needs
+
+load-at-requires : tie.Need-load-at-requires
+load-at-requires c κs = search needs
+
+enum-known-judged-2 : tie.Need-enum-known-judged-2
+enum-known-judged-2 c = search needs
+
+halt-requires : tie.Need-halt-requires
+halt-requires c κs = search needs
+
+same-length : tie.Need-same-length
+same-length c = search needs
+
+returns : tie.Need-returns
+returns c =
+    let a = c .before .before .before .before .before .before .before .before .before .before .before .before .before .args in
+    let read = load-read (a .session) (now (a .memory)) (now (a .image)) (c .before .before .before .before .before .before .before .before .before .before .argument-word .ensures) (c .before .before .before .before .before .before .before .before .before .argument-word2 .ensures)
+    (sym (c .before .before .before .before .before .judged .given .1) ∙ c .before .before .before .before .before .before .before .judge-load .ensures) in
+    (c .before .before .load-at .ensures .0 ∙ ap (λ (o : Outcome). o .answer) read, c .before .before .load-at .ensures .1 ∙ ap (λ (o : Outcome). o .memory) read)
+
+returns-2 : tie.Need-returns-2
+returns-2 c =
+    let a = c .before .before .before .before .before .before .before .before .before .before .args in
+    let read = load-read (a .session) (now (a .memory)) (now (a .image)) (c .before .before .before .before .before .before .before .argument-word .ensures) (c .before .before .before .before .before .before .argument-word2 .ensures)
+    (sym (c .before .before .judged2 .given .1) ∙ c .before .before .before .before .judge-load .ensures) in
+    (c .halt .ensures ∙ ap (λ (o : Outcome). o .answer) read, ap (λ (o : Outcome). o .memory) read)
+
+pub load-spec : {M : Type 1} → statement M
+load-spec =
+    tie.close
+    (tie.spec
+    argument-word-requires
+    argument-word-requires-2
+    judge-load-requires
+    enum-known-judged
+    load-at-requires
+    enum-known-judged-2
+    halt-requires
+    same-length
+    returns
+    returns-2)

@@ -1,0 +1,104 @@
+-- `flash::load_at` meets its contract: the end of the data words is compared with the image's, and the part lent to the copy is the data.
+use borrow.Author.Needs.{needs}
+use Prim.Native.Nat.{ℕ, _+_, _-_}
+use mathlib.Core.List.{List}
+use mathlib.Core.Path.{_≡_, sym, ap, _∙_}
+use native.Mathlib.Nat.{add-sub-cancel-left}
+use lib.ListN.{take, drop}
+use denote.Ref.{now}
+use Rattle.words.specs.Bytes.{bytesAt}
+use Rattle.flash.specs.Sessions.{Outcome}
+use Rattle.flash.proofs.Cases.{load-short, load-whole}
+use Rattle.flash.proofs.load_at.Statement.{statement}
+use Rattle.flash.proofs.load_at.Tie as tie
+
+-- the part of an image from one place to another is its bytes from there on
+part : (image : List ℕ) (from size : ℕ) → take (from + size - from) (drop from image) ≡ bytesAt image from size
+unfolding bytesAt
+part image from size = rw add-sub-cancel-left
+
+cast-from : tie.Need-cast-from
+cast-from c = search needs
+
+add-from : tie.Need-add-from
+add-from c = search needs
+
+add-end : tie.Need-add-end
+add-end c = search needs
+
+mul-end : tie.Need-mul-end
+mul-end c = search needs
+
+add-end-2 : tie.Need-add-end-2
+add-end-2 c = search needs
+
+shortfall-requires : tie.Need-shortfall-requires
+shortfall-requires c κs = search needs
+
+halt-requires : tie.Need-halt-requires
+halt-requires c κs = search needs
+
+returns : tie.Need-returns
+returns c =
+    let a = c .before .before .before .before .before .before .args in
+    let short = load-short (a .session) (now (a .memory)) (now (a .image)) (a .address) (a .size) (a .place) (c .before .before .if1 .taken) in
+    (rw (c .halt .ensures, c .before .shortfall .ensures) (sym (ap (λ (o : Outcome). o .answer) short)), sym (ap (λ (o : Outcome). o .memory) short))
+
+add-to : tie.Need-add-to
+add-to c = search needs
+
+sub-load : tie.Need-sub-load
+sub-load c = search needs
+
+part-load-start : tie.Need-part-load-start
+part-load-start c = search needs
+
+part-load-end : tie.Need-part-load-end
+part-load-end c = search needs
+
+load-requires : tie.Need-load-requires
+load-requires c κs = search needs
+
+cast-moved : tie.Need-cast-moved
+cast-moved c = search needs
+
+moved-requires : tie.Need-moved-requires
+moved-requires c κs = search needs
+
+proceed-requires : tie.Need-proceed-requires
+proceed-requires c κs = search needs
+
+same-length : tie.Need-same-length
+same-length c = search needs
+
+returns-2 : tie.Need-returns-2
+returns-2 c =
+    let a = c .before .before .before .before .before .before .before .before .before .before .before .args in
+    let whole = load-whole (a .session) (now (a .memory)) (now (a .image)) (a .address) (a .size) (a .place) (c .before .before .before .before .before .before .before .if1 .left) in
+    let done = rw (part (now (a .image)) (a .session .offset + 12) (a .size)) at (c .before .before .before .before .load .ensures) in (
+      rw (c .proceed .ensures, c .before .moved .ensures, done .0) (sym (ap (λ (o : Outcome). o .answer) whole)),
+      done .1 ∙ sym (ap (λ (o : Outcome). o .memory) whole),
+    )
+
+pub load-at-spec : {M : Type 1} → statement M
+load-at-spec =
+    tie.close
+    (tie.spec
+    cast-from
+    add-from
+    add-end
+    mul-end
+    add-end-2
+    shortfall-requires
+    halt-requires
+    returns
+    add-to
+    sub-load
+    part-load-start
+    part-load-end
+    load-requires
+    cast-moved
+    moved-requires
+    proceed-requires
+    same-length
+    returns-2)

@@ -1,0 +1,54 @@
+-- `flash::request` meets its contract: a match, spent retries and the seek are tested in the definition's order.
+use borrow.Author.Needs.{needs}
+use mathlib.Core.Path.{sym, _∙_}
+use borrow.Author.Tests.{le-leb, lt-leb, eq-eqb, ne-eqb}
+use Rattle.words.proofs.Choice.{chosen, passed}
+use Rattle.flash.specs.Step.{requested}
+use Rattle.flash.proofs.request.Statement.{statement}
+use Rattle.flash.proofs.request.Tie as tie
+
+add-moved : tie.Need-add-moved
+add-moved c = search needs
+
+moved-requires : tie.Need-moved-requires
+moved-requires c κs = search needs
+
+proceed-requires : tie.Need-proceed-requires
+proceed-requires c κs = search needs
+
+returns : tie.Need-returns
+unfolding requested
+returns c = rw (c .proceed .ensures, c .before .moved .ensures) (sym (chosen _ _ _ (eq-eqb _ _ (c .before .before .before .if1 .taken))))
+
+moved-requires-2 : tie.Need-moved-requires-2
+moved-requires-2 c κs = search needs
+
+halt-requires : tie.Need-halt-requires
+halt-requires c κs = search needs
+
+returns-2 : tie.Need-returns-2
+unfolding requested
+returns-2 c =
+    rw (c .halt .ensures, c .before .moved2 .ensures)
+    (sym (passed _ _ _ (ne-eqb _ _ (c .before .before .before .before .if1 .left)) ∙ chosen _ _ _ (le-leb _ _ (c .before .before .if2 .taken))))
+
+retry-requires : tie.Need-retry-requires
+retry-requires c κs = search needs
+
+returns-3 : tie.Need-returns-3
+unfolding requested
+returns-3 c = c .retry .ensures ∙ sym (passed _ _ _ (ne-eqb _ _ (c .before .before .before .if1 .left)) ∙ passed _ _ _ (lt-leb _ _ (c .before .if2 .left)))
+
+pub request-spec : {M : Type 1} → statement M
+request-spec =
+    tie.close
+    (tie.spec
+    add-moved
+    moved-requires
+    proceed-requires
+    returns
+    moved-requires-2
+    halt-requires
+    returns-2
+    retry-requires
+    returns-3)

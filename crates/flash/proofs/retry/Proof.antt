@@ -1,0 +1,51 @@
+-- `flash::retry` meets its contract: each arm is one case of where the seek leads.
+use borrow.Author.Needs.{needs}
+use mathlib.Core.Path.{sym, ap, _∙_}
+use Rattle.flash.specs.Step.{soughtAs}
+use Rattle.flash.proofs.retry.Statement.{statement}
+use Rattle.flash.proofs.retry.Tie as tie
+
+seek-requires : tie.Need-seek-requires
+seek-requires c κs = search needs
+
+enum-known-led : tie.Need-enum-known-led
+enum-known-led c = search needs
+
+moved-requires : tie.Need-moved-requires
+moved-requires c κs = search needs
+
+add-next : tie.Need-add-next
+add-next c = search needs
+
+proceed-requires : tie.Need-proceed-requires
+proceed-requires c κs = search needs
+
+enum-known-led-2 : tie.Need-enum-known-led-2
+enum-known-led-2 c = search needs
+
+moved-requires-2 : tie.Need-moved-requires-2
+moved-requires-2 c κs = search needs
+
+halt-requires : tie.Need-halt-requires
+halt-requires c κs = search needs
+
+returns : tie.Need-returns
+returns c = rw (c .proceed .ensures, c .before .before .moved .ensures) (ap (soughtAs (c .before .before .before .before .before .before .before .args .session)) (sym (c .before .before .before .before .led .given .1) ∙ c .before .before .before .before .before .before .seek .ensures))
+
+returns-2 : tie.Need-returns-2
+returns-2 c = rw (c .halt .ensures, c .before .moved2 .ensures) (ap (soughtAs (c .before .before .before .before .before .before .args .session)) (sym (c .before .before .before .led2 .given .1) ∙ c .before .before .before .before .before .seek .ensures))
+
+pub retry-spec : {M : Type 1} → statement M
+retry-spec =
+    tie.close
+    (tie.spec
+    seek-requires
+    enum-known-led
+    moved-requires
+    add-next
+    proceed-requires
+    enum-known-led-2
+    moved-requires-2
+    halt-requires
+    returns
+    returns-2)

@@ -1,0 +1,46 @@
+-- The opening of a flash session: 1, then 3, then 4.
+use Prim.Native.Nat.{ℕ}
+use mathlib.Core.Bool.{Bool, true, false, not, _&&_}
+use mathlib.Core.List.{List}
+use lib.Dec.{leb, eqb}
+use lib.ListN.{length, replicate}
+use Rattle.words.specs.Bytes.{wordAt}
+use Rattle.words.specs.Choice.{pick}
+use Rattle.windows.specs.Map.{goodMap, keptOf, zeroWindow}
+use Rattle.windows.specs.declared.Window.{Window}
+use Rattle.script.specs.declared.Refusal.{Refusal}
+use Rattle.script.specs.declared.Refusal.the-variants.{None, Map, Image, Magic}
+use Rattle.commands.specs.Commands.{multiple}
+use Rattle.flash.specs.declared.Opened.{Opened}
+
+-- an image's length is a multiple of 4 in 4..65,536
+unfoldable pub goodLength : ℕ → Bool
+goodLength n = multiple n 4 && leb 4 n && leb n 65536
+
+-- the first word of an image
+abbrev pub magic : ℕ
+magic = 0x41504954
+
+-- a refused opening gives a session that is ended, all else of it zero or off
+abbrev pub refusedBy : Refusal → Opened
+refusedBy q =
+    record {
+      refusal = q;
+      session = record { windows = replicate 8 zeroWindow; ended = true; on = false; register = 0; offset = 0; length = 0; limit = 0; retries = 0 };
+    }
+
+-- an accepted one is at the first command: checksum off, register 0, no retry counted
+abbrev pub begun : List Window → ℕ → ℕ → Opened
+begun windows length limit =
+    record {
+      refusal = None;
+      session = record { windows = windows; ended = false; on = false; register = 0; offset = 4; length = length; limit = limit; retries = 0 };
+    }
+
+-- the opening: a map, an image and a retry limit
+unfoldable pub openedBy : ℕ → List Window → List ℕ → ℕ → Opened
+openedBy count windows image limit =
+    pick (not (goodMap count windows)) (refusedBy Map)
+    (pick (not (goodLength (length image))) (refusedBy Image)
+    (pick (not (eqb (wordAt image 0) magic)) (refusedBy Magic)
+    (begun (keptOf count windows) (length image) limit)))

@@ -1,0 +1,65 @@
+-- The flash session, what a call may change in it, and the answers to a call.
+use Prim.Native.Nat.{ℕ, _+_}
+use mathlib.Core.Bool.{Bool, true, false}
+use mathlib.Core.List.{List}
+use Rattle.script.specs.declared.Event.{Event}
+use Rattle.script.specs.declared.Event.the-variants.{Nothing}
+use Rattle.script.specs.declared.Refusal.{Refusal}
+use Rattle.script.specs.declared.Refusal.the-variants.{None}
+use Rattle.flash.specs.declared.Called.{Called}
+use Rattle.flash.specs.declared.Session.{Session}
+
+-- a session with all that a call may change
+abbrev pub changed : Session → Bool → Bool → ℕ → ℕ → ℕ → Session
+changed s ended on register offset retries =
+    record {
+      windows = s .windows;
+      ended = ended;
+      on = on;
+      register = register;
+      offset = offset;
+      length = s .length;
+      limit = s .limit;
+      retries = retries;
+    }
+
+-- ended, all else as it was
+abbrev pub stop : Session → Session
+stop s = changed s true (s .on) (s .register) (s .offset) (s .retries)
+
+-- with another register, going on at another offset
+abbrev pub goTo : Session → ℕ → ℕ → Session
+goTo s register offset = changed s (s .ended) (s .on) register offset (s .retries)
+
+-- with register 0 at an earlier offset, one retry counted
+abbrev pub goBack : Session → ℕ → Session
+goBack s offset = changed s (s .ended) (s .on) 0 offset (s .retries + 1)
+
+-- the checksum on, its register 0, and past the opcode
+abbrev pub switchOn : Session → Session
+switchOn s = changed s (s .ended) true 0 (s .offset + 4) (s .retries)
+
+-- the checksum off, its register kept, and past the opcode
+abbrev pub switchOff : Session → Session
+switchOff s = changed s (s .ended) false (s .register) (s .offset + 4) (s .retries)
+
+-- refused, the session unchanged; no offset is reported
+abbrev pub unchanged : Refusal → Session → Called
+unchanged q s = record { refusal = q; event = Nothing; at = 0; session = s }
+
+-- refused at the opcode: the session is ended, nothing else of it changes
+abbrev pub stopped : Refusal → Session → Called
+stopped q s = record { refusal = q; event = Nothing; at = s .offset; session = stop s }
+
+-- accepted, with an event: the session s goes on as t
+abbrev pub accepted : Session → Event → Session → Called
+accepted s told t = record { refusal = None; event = told; at = s .offset; session = t }
+
+-- what a call gives: its answer and the memory that it leaves
+pub record Outcome : Type 0 where
+  pub answer : Called
+  pub memory : List ℕ
+
+infix 20 _leaving_
+abbrev pub _leaving_ : Called → List ℕ → Outcome
+answer leaving memory = record { answer = answer; memory = memory }

@@ -1,0 +1,114 @@
+-- One call of a flash session: one command, judged in the order of document 01.
+use Prim.Native.Nat.{ℕ, _+_, _-_, _*_, _/_}
+use mathlib.Core.Bool.{Bool, not, _&&_}
+use mathlib.Core.List.{List}
+use lib.Dec.{leb, eqb}
+use lib.ListN.{length}
+use Rattle.words.specs.Bytes.{bytesAt, wordAt}
+use Rattle.words.specs.Choice.{pick}
+use Rattle.windows.specs.Window.{sumOf}
+use Rattle.script.specs.Answers.{numberOf}
+use Rattle.script.specs.Opcodes.{lookedUp}
+use Rattle.script.specs.declared.Command.{Command}
+use Rattle.script.specs.declared.Command.the-variants as command
+use Rattle.script.specs.declared.Event.the-variants.{Nothing}
+use Rattle.script.specs.declared.Found.{Found}
+use Rattle.script.specs.declared.Found.the-variants.{Known, Unknown}
+use Rattle.script.specs.declared.Mode.the-variants.{Flash}
+use Rattle.script.specs.declared.Refusal.{Refusal}
+use Rattle.script.specs.declared.Refusal.the-variants as refusal
+use Rattle.commands.specs.Commands.{multiple, loadJudged, loaded, loadFed, fillDone, fillMemory, settingDone, settingMemory, jumpDone, closeDone, soughtFrom}
+use Rattle.commands.specs.declared.Done.{Done}
+use Rattle.commands.specs.declared.Judged.{Judged}
+use Rattle.commands.specs.declared.Judged.the-variants.{Granted, Refused}
+use Rattle.commands.specs.declared.Sought.{Sought}
+use Rattle.commands.specs.declared.Sought.the-variants as sought
+use Rattle.flash.specs.Opening.{goodLength}
+use Rattle.flash.specs.Sessions.{Outcome, _leaving_, stop, goTo, goBack, switchOn, switchOff, unchanged, stopped, accepted}
+use Rattle.flash.specs.declared.Called.{Called}
+use Rattle.flash.specs.declared.Session.{Session}
+
+-- does the image have n words from an offset on?
+unfoldable pub present : List ℕ → ℕ → ℕ → Bool
+present image at n = leb (at + 4 * n) (length image)
+
+-- it does not: 5 where it ends between two words, 13 where it ends inside one
+unfoldable pub shortage : List ℕ → ℕ → Refusal
+shortage image at = pick (multiple (length image - at) 4) refusal.Missing refusal.Cut
+
+-- argument word i of the command at the session's offset
+unfoldable pub argument : Session → List ℕ → ℕ → ℕ
+argument s image i = wordAt image (s .offset + 4 + 4 * i)
+
+-- a command of n words that was judged and done: refused it ends the session, accepted it goes on past its words
+unfoldable pub after : Session → Done → ℕ → Called
+after s done n =
+    pick (eqb (numberOf (done .refusal)) 0)
+    (accepted s (done .event) (goTo s (done .register) (s .offset + 4 * n)))
+    (stopped (done .refusal) s)
+
+-- a load granted at a place: 5 or 13 for its data, else they are copied and fed
+unfoldable pub loadAt : Session → List ℕ → List ℕ → ℕ → ℕ → ℕ → Outcome
+loadAt s m image address size place =
+    pick (not (present image (s .offset + 12) ((size + 3) / 4))) (stopped (shortage image (s .offset + 12)) s leaving m)
+    (accepted s Nothing
+    (goTo s (pick (s .on) (loadFed (s .register) address (bytesAt image (s .offset + 12) size)) (s .register))
+    (s .offset + 12 + 4 * ((size + 3) / 4)))
+    leaving loaded m place (bytesAt image (s .offset + 12) size))
+
+-- a load by its judgement: 7
+abbrev pub loadJudgedAs : Session → List ℕ → List ℕ → ℕ → ℕ → Judged → Outcome
+loadJudgedAs s m image address size (Granted place) = loadAt s m image address size place
+loadJudgedAs s m image address size (Refused q) = stopped q s leaving m
+
+-- a mismatch by where its seek leads: one retry is counted, or 12; the register becomes 0 either way
+abbrev pub soughtAs : Session → Sought → Called
+soughtAs s (sought.To offset) = accepted s Nothing (goBack s offset)
+soughtAs s (sought.Refused q) = stopped q (goTo s 0 (s .offset))
+
+-- Request: a match goes on; a mismatch with retries spent is 11; else the seek. The register becomes 0 in each case
+unfoldable pub requested : Session → ℕ → ℕ → Called
+requested s expected seek =
+    pick (eqb expected (s .register)) (accepted s Nothing (goTo s 0 (s .offset + 12)))
+    (pick (leb (s .limit) (s .retries)) (stopped refusal.Checksum (goTo s 0 (s .offset)))
+    (soughtAs s (soughtFrom (s .offset) seek)))
+
+-- Jump & Close: entered, the session is ended
+abbrev pub entered : Called → Called
+entered a = record { refusal = a .refusal; event = a .event; at = a .at; session = stop (a .session) }
+
+-- each command, its words being there; those that the table allows in sent mode only are 6
+abbrev pub performed : Command → Session → List ℕ → List ℕ → Outcome
+performed command.Load s m image =
+    loadJudgedAs s m image (argument s image 0) (argument s image 1) (loadJudged (s .windows) (argument s image 0) (argument s image 1))
+performed command.Fill s m image =
+    after s (fillDone (s .windows) (s .on) (s .register) (argument s image 0) (argument s image 1) (argument s image 2) (argument s image 3)) 5
+    leaving fillMemory (s .windows) m (argument s image 0) (argument s image 1) (argument s image 2) (argument s image 3)
+performed command.BootTable s m image =
+    after s (settingDone (s .windows) (s .register) (argument s image 0) (argument s image 1) (argument s image 3)) 5
+    leaving settingMemory (s .windows) m (argument s image 0) (argument s image 1) (argument s image 2)
+performed command.Enable s m image = accepted s Nothing (switchOn s) leaving m
+performed command.Disable s m image = accepted s Nothing (switchOff s) leaving m
+performed command.Request s m image = requested s (argument s image 0) (argument s image 1) leaving m
+performed command.StartOver s m image = stopped refusal.Opcode s leaving m
+performed command.Jump s m image = after s (jumpDone (s .windows) (s .register) (argument s image 0)) 2 leaving m
+performed command.JumpAndClose s m image =
+    entered (after s (closeDone (s .windows) (s .register) (argument s image 0)) 2) leaving m
+performed command.Ping s m image = stopped refusal.Opcode s leaving m
+performed command.SequentialRead s m image = accepted s Nothing (goTo s (s .register) (s .offset + 4)) leaving m
+
+-- 6, then 13 or 5 for the arguments
+abbrev pub atRow : Session → List ℕ → List ℕ → Found → Outcome
+atRow s m image Unknown = stopped refusal.Opcode s leaving m
+atRow s m image (Known command words) =
+    pick (not (present image (s .offset + 4) words)) (stopped (shortage image (s .offset + 4)) s leaving m)
+    (performed command s m image)
+
+-- a call: 14, 2, 3, then 13 or 5 for the opcode
+unfoldable pub stepOf : Session → List ℕ → List ℕ → Outcome
+stepOf s m image =
+    pick (s .ended) (unchanged refusal.Ended s leaving m)
+    (pick (not (eqb (length m) (sumOf (s .windows)))) (unchanged refusal.Memory s leaving m)
+    (pick (not (goodLength (length image) && eqb (length image) (s .length))) (unchanged refusal.Image s leaving m)
+    (pick (not (present image (s .offset) 1)) (stopped (shortage image (s .offset)) s leaving m)
+    (atRow s m image (lookedUp (wordAt image (s .offset)) Flash)))))

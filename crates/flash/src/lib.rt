@@ -1,0 +1,483 @@
+// Flash mode: the script is a lent image, one command a call.
+ghost use mathlib.Core.Bool.{_&&_};
+ghost use mathlib.Core.Path.{_≡_};
+ghost use Prim.Native.Nat.{_+_, _*_, _^_, _≤_, _<_};
+ghost use lib.Dec.{eqb};
+ghost use lib.ListN.{length};
+ghost use Rattle.commands.specs.Commands.{jumpDone, closeDone, soughtFrom};
+ghost use Rattle.flash.specs.Opening.{goodLength, begun, refusedBy, openedBy};
+ghost use Rattle.flash.specs.Sessions.{goTo, switchOn, switchOff, unchanged, stopped, accepted};
+ghost use Rattle.flash.specs.Step.{shortage, argument, after, loadAt, soughtAs, requested, entered, performed, atRow, stepOf};
+use commands::Done;
+use commands::Judged;
+use commands::Sought;
+use script::Command;
+use script::Event;
+use script::Found;
+use script::Mode;
+use script::Refusal;
+use windows::Window;
+
+// A standing flash session. The windows past the map's count are all zero.
+pub struct Session {
+    pub windows: [Window; 8],
+    pub ended: bool,
+    pub on: bool,
+    pub register: u32,
+    pub offset: u32,
+    pub length: u32,
+    pub limit: u8,
+    pub retries: u8,
+}
+
+pub struct Opened {
+    pub refusal: Refusal,
+    pub session: Session,
+}
+
+// The answer to a call: `at` is the offset of the opcode.
+pub struct Called {
+    pub refusal: Refusal,
+    pub event: Event,
+    pub at: u32,
+    pub session: Session,
+}
+
+impl Session {
+    pub const MAGIC: u32 = 0x4150_4954;
+
+    pub const LONGEST: usize = 65536;
+
+    pub const FIRST: u32 = 4;
+
+    // A session from a map, an image and a retry limit; refused it is ended.
+    pub fn open(count: usize, windows: [Window; 8], image: &[u8], limit: u8) -> Opened
+        ensures { λ r. ⌜ r ≡ openedBy count windows (now (image .entry)) limit ⌝ }
+    {
+        if !windows::is_good(count, windows) {
+            return shut(Refusal::Map);
+        }
+        if !is_length(image.len()) {
+            return shut(Refusal::Image);
+        }
+        if words::word_at(image, 0) != Self::MAGIC {
+            return shut(Refusal::Magic);
+        }
+        begin(windows::kept(count, windows), image.len() as u32, limit)
+    }
+
+    // One command.
+    pub fn step(self, memory: &mut [u8], image: &[u8]) -> Called
+        ensures { λ r. ⌜ r ≡ stepOf self (now (memory .entry)) (now (image .entry)) .answer ⌝ }
+        ensures { λ _. ⌜ now (memory .exit) ≡ stepOf self (now (memory .entry)) (now (image .entry)) .memory ⌝ }
+    {
+        if self.ended {
+            return keep(Refusal::Ended, self);
+        }
+        let windows = self.windows;
+        if memory.len() != windows::sum(windows) {
+            return keep(Refusal::Memory, self);
+        }
+        if !is_image(image.len(), self.length as usize) {
+            return keep(Refusal::Image, self);
+        }
+        let at = self.offset as usize;
+        if image.len() < at + 4 {
+            return halt(shortfall(image, at), self);
+        }
+        let found = script::look_up(words::word_at(image, at), Mode::Flash);
+        at_row(found, self, memory, image)
+    }
+}
+
+// A session at its first command.
+fn begin(windows: [Window; 8], length: u32, limit: u8) -> Opened
+    ensures { λ r. ⌜ r ≡ begun windows length limit ⌝ }
+{
+    Opened {
+        refusal: Refusal::None,
+        session: Session {
+            windows,
+            ended: false,
+            on: false,
+            register: 0,
+            offset: Session::FIRST,
+            length,
+            limit,
+            retries: 0,
+        },
+    }
+}
+
+// Is this the length of an image, and that of the opening?
+fn is_image(n: usize, length: usize) -> bool
+    ensures { λ r. ⌜ r ≡ (goodLength n && eqb n length) ⌝ }
+{
+    if is_length(n) {
+        return n == length;
+    }
+    false
+}
+
+// Is this the length of an image?
+fn is_length(n: usize) -> bool
+    ensures { λ r. ⌜ r ≡ goodLength n ⌝ }
+{
+    if n % 4 != 0 {
+        return false;
+    }
+    if n < 4 {
+        return false;
+    }
+    n <= Session::LONGEST
+}
+
+// A refused opening.
+fn shut(refusal: Refusal) -> Opened
+    ensures { λ r. ⌜ r ≡ refusedBy refusal ⌝ }
+{
+    let none = Window {
+        first: 0,
+        length: 0,
+        rights: 0,
+    };
+    Opened {
+        refusal,
+        session: Session {
+            windows: [none; 8],
+            ended: true,
+            on: false,
+            register: 0,
+            offset: 0,
+            length: 0,
+            limit: 0,
+            retries: 0,
+        },
+    }
+}
+
+// Refused, the session unchanged.
+fn keep(refusal: Refusal, session: Session) -> Called
+    ensures { λ r. ⌜ r ≡ unchanged refusal session ⌝ }
+{
+    Called {
+        refusal,
+        event: Event::Nothing,
+        at: 0,
+        session,
+    }
+}
+
+// Refused at the opcode, the session ended.
+fn halt(refusal: Refusal, session: Session) -> Called
+    ensures { λ r. ⌜ r ≡ stopped refusal session ⌝ }
+{
+    let at = session.offset;
+    let mut over = session;
+    over.ended = true;
+    Called {
+        refusal,
+        event: Event::Nothing,
+        at,
+        session: over,
+    }
+}
+
+// Accepted, the session going on as `next`.
+fn proceed(session: Session, event: Event, next: Session) -> Called
+    ensures { λ r. ⌜ r ≡ accepted session event next ⌝ }
+{
+    let refusal = Refusal::None;
+    Called {
+        refusal,
+        event,
+        at: session.offset,
+        session: next,
+    }
+}
+
+// The session with another register, going on at another offset.
+fn moved(session: Session, register: u32, offset: u32) -> Session
+    ensures { λ r. ⌜ r ≡ goTo session register offset ⌝ }
+{
+    let mut next = session;
+    next.register = register;
+    next.offset = offset;
+    next
+}
+
+// Why words are missing from an offset on.
+fn shortfall(image: &[u8], at: usize) -> Refusal
+    ensures { λ r. ⌜ r ≡ shortage (now (image .entry)) at ⌝ }
+{
+    if image.len() <= at {
+        return Refusal::Missing;
+    }
+    if (image.len() - at) % 4 == 0 {
+        return Refusal::Missing;
+    }
+    Refusal::Cut
+}
+
+// An argument word of the command at the session's offset.
+fn argument_word(session: Session, image: &[u8], i: u32) -> u32
+    ensures { λ r. ⌜ r ≡ argument session (now (image .entry)) i ⌝ }
+{
+    words::word_at(image, (session.offset as usize) + 4 + 4 * (i as usize))
+}
+
+// The answer to a command of so many words that was judged and done.
+fn finish(session: Session, done: Done, words: u32) -> Called
+    requires { ⌜ session .offset + 4 * words < 2 ^ 32 ⌝ }
+    ensures { λ r. ⌜ r ≡ after session done words ⌝ }
+{
+    let refusal = done.refusal;
+    let event = done.event;
+    if refusal.number() == 0 {
+        let next = moved(session, done.register, session.offset + 4 * words);
+        return proceed(session, event, next);
+    }
+    halt(refusal, session)
+}
+
+// A load granted at a place.
+fn load_at(
+    session: Session,
+    memory: &mut [u8],
+    image: &[u8],
+    address: u32,
+    size: u32,
+    place: usize,
+) -> Called
+    requires { ⌜ (session .offset ≤ 65536) × (length (now image) ≤ 65536) ⌝ }
+    ensures { λ r. ⌜ r ≡ loadAt session (now (memory .entry)) (now (image .entry)) address size place .answer ⌝ }
+    ensures { λ _. ⌜ now (memory .exit) ≡ loadAt session (now (memory .entry)) (now (image .entry)) address size place .memory ⌝ }
+{
+    let from = (session.offset as usize) + 12;
+    let end = from + 4 * (((size as usize) + 3) / 4);
+    if image.len() < end {
+        return halt(shortfall(image, from), session);
+    }
+    let to = from + (size as usize);
+    let register = commands::load(
+        memory,
+        place,
+        session.on,
+        session.register,
+        address,
+        &image[from..to],
+    );
+    proceed(
+        session,
+        Event::Nothing,
+        moved(session, register, end as u32),
+    )
+}
+
+// Load.
+fn load(session: Session, memory: &mut [u8], image: &[u8]) -> Called
+    requires { ⌜ (session .offset ≤ 65536) × (length (now image) ≤ 65536) ⌝ }
+    ensures { λ r. ⌜ r ≡ performed Command.Load session (now (memory .entry)) (now (image .entry)) .answer ⌝ }
+    ensures { λ _. ⌜ now (memory .exit) ≡ performed Command.Load session (now (memory .entry)) (now (image .entry)) .memory ⌝ }
+{
+    let address = argument_word(session, image, 0);
+    let size = argument_word(session, image, 1);
+    let windows = session.windows;
+    let judged = commands::judge_load(windows, address, size);
+    match judged {
+        Judged::Granted(place) => load_at(session, memory, image, address, size, place),
+        Judged::Refused(refusal) => halt(refusal, session),
+    }
+}
+
+// Fill.
+fn fill(session: Session, memory: &mut [u8], image: &[u8]) -> Called
+    requires { ⌜ (session .offset ≤ 65536) × (length (now image) ≤ 65536) ⌝ }
+    ensures { λ r. ⌜ r ≡ performed Command.Fill session (now (memory .entry)) (now (image .entry)) .answer ⌝ }
+    ensures { λ _. ⌜ now (memory .exit) ≡ performed Command.Fill session (now (memory .entry)) (now (image .entry)) .memory ⌝ }
+{
+    let address = argument_word(session, image, 0);
+    let size = argument_word(session, image, 1);
+    let kind = argument_word(session, image, 2);
+    let pattern = argument_word(session, image, 3);
+    let windows = session.windows;
+    let done = commands::fill(
+        windows,
+        memory,
+        session.on,
+        session.register,
+        address,
+        size,
+        kind,
+        pattern,
+    );
+    finish(session, done, 5)
+}
+
+// Boot Table.
+fn boot_table(session: Session, memory: &mut [u8], image: &[u8]) -> Called
+    requires { ⌜ (session .offset ≤ 65536) × (length (now image) ≤ 65536) ⌝ }
+    ensures { λ r. ⌜ r ≡ performed Command.BootTable session (now (memory .entry)) (now (image .entry)) .answer ⌝ }
+    ensures { λ _. ⌜ now (memory .exit) ≡ performed Command.BootTable session (now (memory .entry)) (now (image .entry)) .memory ⌝ }
+{
+    let word = argument_word(session, image, 0);
+    let address = argument_word(session, image, 1);
+    let value = argument_word(session, image, 2);
+    let delay = argument_word(session, image, 3);
+    let windows = session.windows;
+    let done = commands::boot_table(
+        windows,
+        memory,
+        session.register,
+        word,
+        address,
+        value,
+        delay,
+    );
+    finish(session, done, 5)
+}
+
+// Enable: the checksum on, its register 0.
+fn enable(session: Session) -> Called
+    requires { ⌜ session .offset ≤ 65536 ⌝ }
+    ensures { λ r. ⌜ r ≡ accepted session Event.Nothing (switchOn session) ⌝ }
+{
+    let mut next = moved(session, 0, session.offset + 4);
+    next.on = true;
+    proceed(session, Event::Nothing, next)
+}
+
+// Disable: the checksum off, its register kept.
+fn disable(session: Session) -> Called
+    requires { ⌜ session .offset ≤ 65536 ⌝ }
+    ensures { λ r. ⌜ r ≡ accepted session Event.Nothing (switchOff session) ⌝ }
+{
+    let mut next = moved(session, session.register, session.offset + 4);
+    next.on = false;
+    proceed(session, Event::Nothing, next)
+}
+
+// Sequential Read Enable: no effect.
+fn pass_over(session: Session) -> Called
+    requires { ⌜ session .offset ≤ 65536 ⌝ }
+    ensures { λ r. ⌜ r ≡ accepted session Event.Nothing (goTo session (session .register) (session .offset + 4)) ⌝ }
+{
+    proceed(
+        session,
+        Event::Nothing,
+        moved(session, session.register, session.offset + 4),
+    )
+}
+
+// A mismatch: the seek, and a retry.
+fn retry(session: Session, seek: u32) -> Called
+    requires { ⌜ session .retries < 255 ⌝ }
+    ensures { λ r. ⌜ r ≡ soughtAs session (soughtFrom (session .offset) seek) ⌝ }
+{
+    let led = commands::seek(session.offset, seek);
+    match led {
+        Sought::To(offset) => {
+            let mut next = moved(session, 0, offset);
+            next.retries = session.retries + 1;
+            proceed(session, Event::Nothing, next)
+        }
+        Sought::Refused(refusal) => halt(refusal, moved(session, 0, session.offset)),
+    }
+}
+
+// Request: compares the register, which becomes 0 either way.
+fn request(session: Session, expected: u32, seek: u32) -> Called
+    requires { ⌜ session .offset ≤ 65536 ⌝ }
+    ensures { λ r. ⌜ r ≡ requested session expected seek ⌝ }
+{
+    if expected == session.register {
+        return proceed(
+            session,
+            Event::Nothing,
+            moved(session, 0, session.offset + 12),
+        );
+    }
+    if session.limit <= session.retries {
+        return halt(Refusal::Checksum, moved(session, 0, session.offset));
+    }
+    retry(session, seek)
+}
+
+// Jump.
+fn jump(session: Session, address: u32) -> Called
+    requires { ⌜ session .offset ≤ 65536 ⌝ }
+    ensures { λ r. ⌜ r ≡ after session (jumpDone (session .windows) (session .register) address) 2 ⌝ }
+{
+    let windows = session.windows;
+    finish(
+        session,
+        commands::jump(windows, session.register, address),
+        2,
+    )
+}
+
+// Jump & Close: entered, the session is ended.
+fn jump_and_close(session: Session, address: u32) -> Called
+    requires { ⌜ session .offset ≤ 65536 ⌝ }
+    ensures { λ r. ⌜ r ≡ entered (after session (closeDone (session .windows) (session .register) address) 2) ⌝ }
+{
+    let windows = session.windows;
+    let last = finish(
+        session,
+        commands::jump_and_close(windows, session.register, address),
+        2,
+    );
+    let mut over = last.session;
+    over.ended = true;
+    let refusal = last.refusal;
+    let event = last.event;
+    Called {
+        refusal,
+        event,
+        at: last.at,
+        session: over,
+    }
+}
+
+// A command whose words are there.
+fn perform(command: Command, session: Session, memory: &mut [u8], image: &[u8]) -> Called
+    requires { ⌜ (session .offset ≤ 65536) × (length (now image) ≤ 65536) ⌝ }
+    ensures { λ r. ⌜ r ≡ performed command session (now (memory .entry)) (now (image .entry)) .answer ⌝ }
+    ensures { λ _. ⌜ now (memory .exit) ≡ performed command session (now (memory .entry)) (now (image .entry)) .memory ⌝ }
+{
+    match command {
+        Command::Load => load(session, memory, image),
+        Command::Fill => fill(session, memory, image),
+        Command::BootTable => boot_table(session, memory, image),
+        Command::Enable => enable(session),
+        Command::Disable => disable(session),
+        Command::Request => request(
+            session,
+            argument_word(session, image, 0),
+            argument_word(session, image, 1),
+        ),
+        Command::StartOver => halt(Refusal::Opcode, session),
+        Command::Jump => jump(session, argument_word(session, image, 0)),
+        Command::JumpAndClose => jump_and_close(session, argument_word(session, image, 0)),
+        Command::Ping => halt(Refusal::Opcode, session),
+        Command::SequentialRead => pass_over(session),
+    }
+}
+
+// What the table says of the opcode, then the command.
+fn at_row(found: Found, session: Session, memory: &mut [u8], image: &[u8]) -> Called
+    requires { ⌜ (session .offset ≤ 65536) × (length (now image) ≤ 65536) ⌝ }
+    ensures { λ r. ⌜ r ≡ atRow session (now (memory .entry)) (now (image .entry)) found .answer ⌝ }
+    ensures { λ _. ⌜ now (memory .exit) ≡ atRow session (now (memory .entry)) (now (image .entry)) found .memory ⌝ }
+{
+    match found {
+        Found::Unknown => halt(Refusal::Opcode, session),
+        Found::Known(command, words) => {
+            let from = (session.offset as usize) + 4;
+            if image.len() < from + 4 * (words as usize) {
+                return halt(shortfall(image, from), session);
+            }
+            perform(command, session, memory, image)
+        }
+    }
+}

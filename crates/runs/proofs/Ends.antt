@@ -1,0 +1,137 @@
+-- Every run ends by itself: each call that goes on takes at least one from the words that are left to pass, and the bound counts no fewer
+-- than those.
+use Prim.Native.Nat.{ℕ, zero, suc, _+_, _-_, _*_, _/_, _≤_, _<_}
+use mathlib.Core.Bool.{true, false, not, true≢false}
+use mathlib.Core.List.{List}
+use mathlib.Core.Path.{_≡_, sym, ap, ap₂, subst, _∙_}
+use native.Mathlib.Omega.{arith}
+use native.Mathlib.Nat.{mul-le-mul-right, add-mul}
+use Rattle.words.proofs.Choice.{chosen, by-test}
+use Rattle.script.specs.declared.Refusal.the-variants as refusal
+use Rattle.flash.specs.Sessions.{Outcome, _leaving_, unchanged}
+use Rattle.flash.specs.Step.{stepOf}
+use Rattle.flash.specs.declared.Called.{Called}
+use Rattle.flash.specs.declared.Session.{Session}
+use Rattle.runs.specs.Run.{goesOn, carriedOn, enough, runOf, Ended, entering, refused, Onward, forward, back, Moves}
+use Rattle.runs.proofs.Calls.{accepted-goes, refused-stops, stays, goes}
+use Rattle.runs.proofs.Turns.{Turn, moving, ending, step-turn}
+
+-- words still to pass: those of the image for each retry that is left, and those from the offset on
+abbrev wordsLeft : Session → ℕ
+wordsLeft s = (s .limit - s .retries) * (s .length / 4) + (s .length - s .offset) / 4
+
+-- the bound is no less
+left-bound : (s : Session) → wordsLeft s ≤ enough s
+left-bound s =
+    let words = s .length / 4 in
+    let spare : (s .limit - s .retries) * words ≤ s .limit * words = mul-le-mul-right words (omega arith) in
+    omega (arith, add-mul (s .limit) 1 words)
+
+-- a move leaves fewer
+move-less : {s t : Session} → Moves s t → wordsLeft t < wordsLeft s
+move-less {s} {t} moves = go (moves .onward)
+  where
+    same-words : t .length / 4 ≡ s .length / 4
+    same-words = ap (λ (n : ℕ). n / 4) (moves .same-length)
+
+    go : Onward s t → wordsLeft t < wordsLeft s
+    go (forward low same) =
+        let spare : t .limit - t .retries ≡ s .limit - s .retries = omega arith in
+        omega (arith, ap₂ (λ (n k : ℕ). n * k) spare same-words)
+    go (back low before left one) =
+        let spare : t .limit - t .retries + 1 ≡ s .limit - s .retries = omega arith in
+        omega (arith, ap₂ (λ (n k : ℕ). n * k) spare same-words, add-mul (t .limit - t .retries) 1 (t .length / 4))
+
+-- an end does not go on
+end-stops : {a : Called} → Ended a → goesOn a ≡ false
+end-stops {a} (entering e k over) = accepted-goes a e ∙ ap not over
+end-stops {a} (refused r) = refused-stops a (r .0)
+
+-- an answer with fewer than n words left to pass, or the last
+data Within (n : ℕ) (a : Called) : Type 0 where
+  fewer : goesOn a ≡ true → a .session .ended ≡ false → wordsLeft (a .session) < n → Within n a
+  final : Ended a → Within n a
+
+-- a call of a session that is not ended
+turned : {s : Session} {a : Called} {n : ℕ} → s .ended ≡ false → wordsLeft s ≤ n → Turn s a → Within n a
+turned {a = a} standing bound (moving e moves) =
+    let still = moves .same-end ∙ standing in
+    fewer (accepted-goes a e ∙ ap not still) still (omega (arith, move-less moves))
+turned standing bound (ending end) = final end
+
+-- a call of an ended session is refused with 14
+step-ended : (s : Session) (m image : List ℕ) → s .ended ≡ true → stepOf s m image ≡ unchanged refusal.Ended s leaving m
+unfolding stepOf
+step-ended s m image e = chosen _ _ _ e
+
+-- and does not go on
+ended-stops : (s : Session) (m image : List ℕ) → s .ended ≡ true → goesOn (stepOf s m image .answer) ≡ false
+ended-stops s m image e =
+    ap (λ (o : Outcome). goesOn (o .answer)) (step-ended s m image e) ∙ refused-stops (unchanged refusal.Ended s) (λ z. omega arith)
+
+-- a turn that goes on has moved
+turn-moves : {s : Session} {a : Called} → Turn s a → goesOn a ≡ true → Moves s (a .session)
+turn-moves (moving e moves) more = moves
+turn-moves (ending end) more = absurd (true≢false (sym more ∙ end-stops end))
+
+module _ (image : List ℕ) where
+  -- an end, or what more calls lead to
+  arrives : (n : ℕ) (o : Outcome) → Within n (o .answer)
+      → (goesOn (o .answer) ≡ true → o .answer .session .ended ≡ false → wordsLeft (o .answer .session) < n → Ended (carriedOn n o image .answer))
+      → Ended (carriedOn n o image .answer)
+  arrives n o (fewer e standing h) later = later e standing h
+  arrives n o (final end) later = subst (λ (x : Outcome). Ended (x .answer)) (sym (stays image n o (end-stops end))) end
+
+  -- as many calls as there are words left lead to an end
+  reaches : (n : ℕ) (o : Outcome) → Within n (o .answer) → Ended (carriedOn n o image .answer)
+  reaches zero o within = arrives zero o within (λ e standing h. absurd (omega arith))
+  reaches (suc n) o within =
+      arrives (suc n) o within
+      (λ e standing h. subst (λ (x : Outcome). Ended (x .answer)) (sym (goes image n o e))
+      (reaches n _ (turned standing (omega arith) (step-turn (o .answer .session) (o .memory) image standing))))
+
+  -- more calls than lead to an end lead to the same
+  longer : (n k : ℕ) (o : Outcome) → n ≤ k → goesOn (carriedOn n o image .answer) ≡ false → carriedOn k o image ≡ carriedOn n o image
+  unfolding carriedOn
+  longer zero k o h e = stays image k o e
+  longer (suc n) zero o h e = absurd (omega arith)
+  longer (suc n) (suc k) o h e =
+      by-test (goesOn (o .answer))
+      (λ more.
+      let next = goes image n o more in
+      goes image k o more
+      ∙ longer n k _ (omega arith) (sym (ap (λ (x : Outcome). goesOn (x .answer)) next) ∙ e)
+      ∙ sym next)
+      (λ none. stays image (suc k) o none ∙ sym (stays image (suc n) o none))
+
+module _ (s : Session) (m image : List ℕ) where
+  -- a run of an ended session is one call
+  pub run-of-ended : s .ended ≡ true → runOf s m image ≡ unchanged refusal.Ended s leaving m
+  unfolding runOf
+  run-of-ended e = stays image (enough s) (stepOf s m image) (ended-stops s m image e) ∙ step-ended s m image e
+
+  -- a run of any other ends by entering, or by a refusal that is not 14
+  pub run-reaches-end : s .ended ≡ false → Ended (runOf s m image .answer)
+  unfolding runOf
+  run-reaches-end standing = reaches image (enough s) _ (turned standing (left-bound s) (step-turn s m image standing))
+
+  -- no run stops while its session goes on
+  pub run-ends : goesOn (runOf s m image .answer) ≡ false
+  unfolding runOf
+  run-ends =
+      by-test (s .ended)
+      (λ e.
+      let over = ended-stops s m image e in
+      ap (λ (o : Outcome). goesOn (o .answer)) (stays image (enough s) (stepOf s m image) over) ∙ over)
+      (λ e. end-stops (run-reaches-end e))
+
+  -- so a greater bound changes nothing
+  pub more-is-same : (n : ℕ) → enough s ≤ n → carriedOn n (stepOf s m image) image ≡ runOf s m image
+  unfolding runOf
+  more-is-same n h = longer image (enough s) n (stepOf s m image) h run-ends
+
+  -- a call that goes on keeps windows, length and limit, and moves
+  pub step-moves : goesOn (stepOf s m image .answer) ≡ true → Moves s (stepOf s m image .answer .session)
+  step-moves more =
+      by-test (s .ended) (λ e. absurd (true≢false (sym more ∙ ended-stops s m image e)))
+      (λ standing. turn-moves (step-turn s m image standing) more)

@@ -1,0 +1,4 @@
+pub mod Calls
+pub mod Ends
+pub mod Turns
+pub mod Verdicts

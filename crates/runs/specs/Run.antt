@@ -1,0 +1,55 @@
+-- A run of one unchanged image: calls until one is refused or the session ends.
+use Prim.Native.Nat.{ℕ, zero, suc, _+_, _*_, _/_, _≤_, _<_}
+use mathlib.Core.Bool.{Bool, true, not, _&&_}
+use mathlib.Core.List.{List}
+use mathlib.Core.Logic.{_≢_}
+use mathlib.Core.Path.{_≡_}
+use lib.Dec.{eqb}
+use Rattle.words.specs.Choice.{pick}
+use Rattle.script.specs.Answers.{numberOf, kindOf}
+use Rattle.script.specs.declared.Refusal.{Refusal}
+use Rattle.flash.specs.Sessions.{Outcome}
+use Rattle.flash.specs.Step.{stepOf}
+use Rattle.flash.specs.declared.Called.{Called}
+use Rattle.flash.specs.declared.Session.{Session}
+
+-- does the session go on after a call?
+unfoldable pub goesOn : Called → Bool
+goesOn a = eqb (numberOf (a .refusal)) 0 && not (a .session .ended)
+
+-- at most n calls more, while the session goes on
+unfoldable pub carriedOn : ℕ → Outcome → List ℕ → Outcome
+carriedOn zero o image = o
+carriedOn (suc n) o image =
+    pick (goesOn (o .answer)) (carriedOn n (stepOf (o .answer .session) (o .memory) image) image) o
+
+-- calls that suffice after the first: the image is passed once, and once more for each retry, a word or more a call
+abbrev pub enough : Session → ℕ
+enough s = (s .limit + 1) * (s .length / 4)
+
+-- a run to the session's end
+unfoldable pub runOf : Session → List ℕ → List ℕ → Outcome
+runOf s m image = carriedOn (enough s) (stepOf s m image) image
+
+-- is it a refusal, and not 14?
+abbrev pub Refuses : Refusal → Type 0
+Refuses q = (numberOf q ≢ 0) × (numberOf q ≢ 14)
+
+-- the two ends of a run: entering, which ends the session, or a refusal other than 14
+pub data Ended (a : Called) : Type 0 where
+  entering : numberOf (a .refusal) ≡ 0 → kindOf (a .event) ≡ 3 → a .session .ended ≡ true → Ended a
+  refused : Refuses (a .refusal) → Ended a
+
+-- where a call that goes on leads: past the words of its command, or back with one of the retries that are left
+pub data Onward (s t : Session) : Type 0 where
+  forward : s .offset + 4 ≤ t .offset → t .retries ≡ s .retries → Onward s t
+  back : 4 ≤ t .offset → t .offset < s .offset → s .retries < s .limit → t .retries ≡ s .retries + 1 → Onward s t
+
+-- what such a call keeps of a session, and where it leads: to an offset of the image or to its end
+pub record Moves (s t : Session) : Type 0 where
+  pub same-windows : t .windows ≡ s .windows
+  pub same-length : t .length ≡ s .length
+  pub same-limit : t .limit ≡ s .limit
+  pub same-end : t .ended ≡ s .ended
+  pub within : t .offset ≤ s .length
+  pub onward : Onward s t

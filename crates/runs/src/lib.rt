@@ -1,0 +1,34 @@
+// A run of one unchanged image.
+ghost use mathlib.Core.Path.{_≡_};
+ghost use Rattle.runs.specs.Run.{goesOn, runOf};
+use flash::Called;
+use flash::Session;
+
+// Does the session go on after a call?
+fn goes_on(called: Called) -> bool
+    ensures { λ r. ⌜ r ≡ goesOn called ⌝ }
+{
+    let refusal = called.refusal;
+    if refusal.number() == 0 {
+        return !called.session.ended;
+    }
+    false
+}
+
+// Calls until one is refused or the session ends.
+pub fn run(session: Session, memory: &mut [u8], image: &[u8]) -> Called
+    ensures { λ r. ⌜ r ≡ runOf session (now (memory .entry)) (now (image .entry)) .answer ⌝ }
+    ensures { λ _. ⌜ now (memory .exit) ≡ runOf session (now (memory .entry)) (now (image .entry)) .memory ⌝ }
+{
+    let mut left = ((session.limit as u64) + 1) * ((session.length as u64) / 4);
+    let mut last = session.step(memory, image);
+    while 0 < left {
+        if !goes_on(last) {
+            return last;
+        }
+        let next = last.session;
+        last = next.step(memory, image);
+        left -= 1;
+    }
+    last
+}
