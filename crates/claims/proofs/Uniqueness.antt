@@ -35,6 +35,13 @@ use Rattle.flash.proofs.Session.«open».Reads as flash-opening
 use Rattle.flash.proofs.Session.step.Reads as flash-step
 use Rattle.runs.proofs.run.Reads as run
 use Rattle.checking.proofs.check.Reads as check
+use Rattle.sent.proofs.Session.«open».Reads as sent-opening
+use Rattle.sent.proofs.Session.step.Reads as sent-step
+use Rattle.sent.proofs.take_word.Reads as take_word
+use Rattle.sent.specs.Line.{Outcome}
+use Rattle.sent.specs.declared.Session.{Session}
+use Rattle.port.specs.Port.{isGiven}
+use Rattle.port.specs.declared.Told.{Told}
 
 module _ {K : Type 0} {A R E : K → Type 0} (Post : (κs : K) → A κs → R κs → E κs → Type 0) where
   -- any two outcomes that a contract allows at the same arguments agree
@@ -158,3 +165,18 @@ run-unique κs a r s e f = both-same
 -- checking
 pub check-unique : OneResult check.Post
 check-unique κs a r s e f = same
+
+-- sent
+pub sent-open-unique : OneResult sent-opening.Post
+sent-open-unique κs a r s e f = same
+
+pub sent-step-unique : OneResultAndMemory sent-step.Post (λ κs e. now (e .1 .0))
+sent-step-unique κs a r s e f = both-same
+
+pub take-word-unique : OneResultAndMemory take_word.Post (λ κs e. now (e .1 .0))
+take-word-unique κs a r s e f = both-same
+
+-- port: the routine over a lent session is proved by hand, and its contract is read as it stands in the source
+pub port-feed-unique : (o : Outcome) {s t : Session} {r q : Told} {m n : List ℕ} → isGiven o s r m → isGiven o t q n
+    → (s ≡ t) × (r ≡ q) × (m ≡ n)
+port-feed-unique o a b = (same (a .0) (b .0), same (a .1) (b .1), same (a .2) (b .2))

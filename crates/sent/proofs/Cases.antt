@@ -1,0 +1,105 @@
+-- What a byte comes to, by the facts that its tests ask. Each law takes the tests of a definition one after the other.
+use Prim.Native.Nat.{ℕ, _+_, _≤_, _<_}
+use mathlib.Core.Bool.{Bool, true, false, not, _&&_, _||_}
+use mathlib.Core.List.{List, []}
+use mathlib.Core.Path.{_≡_, refl, ap, ap₂, _∙_}
+use lib.Dec.{eqb}
+use lib.ListN.{length}
+use borrow.Author.Tests.{lt-ltb, le-ltb, eq-eqb, ne-eqb}
+use Rattle.words.proofs.Choice.{chosen, passed}
+use Rattle.windows.specs.Window.{placeOf, sumOf}
+use Rattle.windows.specs.declared.Place.{Place}
+use Rattle.windows.specs.declared.Place.the-variants.{At, Nowhere}
+use Rattle.windows.specs.declared.Right.the-variants.{Load}
+use Rattle.windows.specs.declared.Window.{Window}
+use Rattle.windows.proofs.Laws.{placed-inside}
+use Rattle.commands.specs.Commands.{placed, rangeJudged, loadJudged}
+use Rattle.commands.specs.declared.Judged.the-variants.{Granted}
+use native.Mathlib.Omega.{arith}
+use Rattle.script.specs.declared.Refusal.the-variants as refusal
+use Rattle.sent.specs.Line.{Outcome, pushed, plainly, gathered, carried, isStart, byteStep}
+use Rattle.sent.specs.Machine as machine
+use Rattle.sent.specs.Machine.{_leaving_, wordStep}
+use Rattle.sent.specs.Replies.{silence, startAnswer}
+use Rattle.sent.specs.declared.Session.{Session}
+
+-- the answer on the line needs only the word's answer, and the memory is the word's
+module _ (s : Session) (o : machine.Outcome) where
+  pub carried-answer : carried s (o .answer leaving []) .answer ≡ carried s o .answer
+  unfolding carried
+  carried-answer = refl
+
+  pub carried-memory : o .memory ≡ carried s o .memory
+  unfolding carried
+  carried-memory = refl
+
+-- the start word: no other byte; before the first; inside a word; again where a word would begin
+module _ (s : Session) (b : ℕ) where
+  pub start-other : (b ≡ 0x58 → ⊥) → isStart s b ≡ false
+  unfolding isStart
+  start-other other = ap (λ (t : Bool). t && (not (s .line .started) || (eqb (s .line .have) 0 && not (s .core .begun)))) (ne-eqb _ _ other)
+
+  module _ (same : b ≡ 0x58) where
+    pub start-first : s .line .started ≡ false → isStart s b ≡ true
+    unfolding isStart
+    start-first before =
+        ap₂ _&&_ (eq-eqb _ _ same) (ap (λ (t : Bool). not t || (eqb (s .line .have) 0 && not (s .core .begun))) before)
+
+    pub start-inside : s .line .started ≡ true → (s .line .have ≡ 0 → ⊥) → isStart s b ≡ false
+    unfolding isStart
+    start-inside since have =
+        ap₂ _&&_ (eq-eqb _ _ same) (ap₂ (λ (t e : Bool). not t || (e && not (s .core .begun))) since (ne-eqb _ _ have))
+
+    pub start-again : s .line .started ≡ true → s .line .have ≡ 0 → isStart s b ≡ not (s .core .begun)
+    unfolding isStart
+    start-again since have =
+        ap₂ _&&_ (eq-eqb _ _ same) (ap₂ (λ (t e : Bool). not t || (e && not (s .core .begun))) since (eq-eqb _ _ have))
+
+-- a byte: each refusal in its case, then the line, then the whole word
+module _ (s : Session) (m : List ℕ) (b : ℕ) where
+  pub byte-ended : s .core .ended ≡ true → byteStep s m b ≡ plainly refusal.Ended silence s m
+  unfolding byteStep
+  byte-ended e = chosen _ _ _ e
+
+  module _ (running : s .core .ended ≡ false) where
+    pub byte-memory : (length m ≡ sumOf (s .core .windows) → ⊥) → byteStep s m b ≡ plainly refusal.Memory silence s m
+    unfolding byteStep
+    byte-memory e = passed _ _ _ running ∙ chosen _ _ _ (ap not (ne-eqb _ _ e))
+
+    module _ (lent : length m ≡ sumOf (s .core .windows)) where
+      pub byte-start : isStart s b ≡ true
+          → byteStep s m b ≡ plainly refusal.None startAnswer (gathered s true (s .line .have) (s .line .word)) m
+      unfolding byteStep
+      byte-start e = passed _ _ _ running ∙ passed _ _ _ (ap not (eq-eqb _ _ lent)) ∙ chosen _ _ _ e
+
+      module _ (other : isStart s b ≡ false) where
+        pub byte-dropped : s .line .started ≡ false → byteStep s m b ≡ plainly refusal.None silence s m
+        unfolding byteStep
+        byte-dropped e =
+            passed _ _ _ running ∙ passed _ _ _ (ap not (eq-eqb _ _ lent)) ∙ passed _ _ _ other ∙ chosen _ _ _ (ap not e)
+
+        module _ (since : s .line .started ≡ true) where
+          pub byte-gathered : s .line .have < 3
+              → byteStep s m b ≡ plainly refusal.None silence (gathered s true (s .line .have + 1) (pushed (s .line .word) b)) m
+          unfolding byteStep
+          byte-gathered h =
+              passed _ _ _ running ∙ passed _ _ _ (ap not (eq-eqb _ _ lent)) ∙ passed _ _ _ other ∙ passed _ _ _ (ap not since)
+              ∙ chosen _ _ _ (lt-ltb _ _ h)
+
+          pub byte-whole : 3 ≤ s .line .have → byteStep s m b ≡ carried s (wordStep (s .core) m (pushed (s .line .word) b))
+          unfolding byteStep
+          byte-whole h =
+              passed _ _ _ running ∙ passed _ _ _ (ap not (eq-eqb _ _ lent)) ∙ passed _ _ _ other ∙ passed _ _ _ (ap not since)
+              ∙ passed _ _ _ (le-ltb _ _ h)
+
+-- a load that is granted lies inside the lent memory
+pub granted-inside : (windows : List Window) (address size place : ℕ) → loadJudged windows address size ≡ Granted place
+    → place + size ≤ sumOf windows
+unfolding loadJudged rangeJudged
+granted-inside windows address size place granted = go (placeOf windows Load address size) refl granted
+  where
+    go : (found : Place) → placeOf windows Load address size ≡ found → placed refusal.Range found ≡ Granted place → place + size ≤ sumOf windows
+    go (At q) e g =
+        let same : q ≡ place = cc in
+        placed-inside windows Load address size place (e ∙ ap At same)
+    go Nowhere e g = let z : _≡_ {A = ℕ} 0 1 = cc in omega arith

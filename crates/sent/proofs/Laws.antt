@@ -1,0 +1,212 @@
+-- Four bytes of the line are a word, and a load sent in pieces does what the whole load does in flash mode. The second goes word by word:
+-- a data word writes and feeds the next bytes of the load, and what the later words write and feed goes on from there.
+use Prim.Native.Nat.{ℕ, zero, suc, _+_, _-_, _*_, _/_, _%_, _^_, _<_, min}
+use mathlib.Core.Bool.{Bool, true, false}
+use mathlib.Core.List.{List, [], _∷_, _++_}
+use mathlib.Core.Path.{_≡_, refl, sym, ap, ap₂, _∙_}
+use native.Mathlib.Nat.{add-zero, add-suc, add-assoc, add-sub-cancel}
+use native.Mathlib.Omega.{arith}
+use borrow.Author.Tests.{eq-eqb, ne-eqb}
+use lib.ListN.{length, getD, take, drop, set, length-append, length-take, take-append-drop, List·getD-append}
+use lib.Seq.{length-take-le, take-nil, getD-take, getD-append-add}
+use Rattle.words.specs.Bits.{bit, join}
+use Rattle.words.specs.Bytes.{byte, number, put}
+use Rattle.words.specs.Choice.{pick}
+use Rattle.words.proofs.Choice.{chosen, passed}
+use Rattle.words.proofs.WrittenBits.{bit-byte, bit-number}
+use Rattle.checksum.specs.Checksum.{fedBit, fed, fedWords}
+use Rattle.commands.specs.Commands.{loadJudged, loaded, wordsFed, loadFed}
+use Rattle.commands.specs.declared.Judged.{Judged}
+use Rattle.commands.specs.declared.Judged.the-variants.{Granted}
+use Rattle.sent.specs.Line.{pushed}
+use Rattle.sent.specs.Machine.{Outcome, await, quiet, _leaving_, awaited, loadBegun, dataBytes, inPhase, wordStep}
+use Rattle.sent.specs.declared.Core.{Core}
+use Rattle.sent.specs.declared.Phase.{Phase}
+use Rattle.sent.specs.declared.Phase.the-variants as phase
+
+-- four bytes are the little-endian word, whatever stood before
+pub four-pushes : (w a b c d : ℕ) → w < 2 ^ 32 → a < 256 → b < 256 → c < 256 → d < 256
+    → pushed (pushed (pushed (pushed w a) b) c) d ≡ number (a ∷ b ∷ c ∷ d ∷ [])
+unfolding pushed number join
+four-pushes w a b c d w< a< b< c< d< = omega arith
+
+-- the core and the memory that words leave, one after the other
+unfoldable pub coreAfter : Core → List ℕ → List ℕ → Core
+coreAfter k m [] = k
+coreAfter k m (w ∷ ws) = coreAfter (wordStep k m w .answer .core) (wordStep k m w .memory) ws
+
+unfoldable pub memoryAfter : Core → List ℕ → List ℕ → List ℕ
+memoryAfter k m [] = m
+memoryAfter k m (w ∷ ws) = memoryAfter (wordStep k m w .answer .core) (wordStep k m w .memory) ws
+
+-- the bytes of words, lowest first
+abbrev pub bytesOf : List ℕ → List ℕ
+bytesOf [] = []
+bytesOf (w ∷ ws) = byte w 0 ∷ byte w 1 ∷ byte w 2 ∷ byte w 3 ∷ bytesOf ws
+
+-- the first four of n bytes of words are those of the first word that belong to the load, and the others those of the other words
+first-bytes : (n w : ℕ) (ws : List ℕ) → take 4 (take n (bytesOf (w ∷ ws))) ≡ dataBytes w n
+first-bytes zero w ws = refl
+first-bytes (suc zero) w ws = refl
+first-bytes (suc (suc zero)) w ws = refl
+first-bytes (suc (suc (suc zero))) w ws = refl
+first-bytes (suc (suc (suc (suc n)))) w ws = ap (λ (l : List ℕ). byte w 0 ∷ byte w 1 ∷ byte w 2 ∷ byte w 3 ∷ l) (sym (take-nil n))
+
+other-bytes : (n w : ℕ) (ws : List ℕ) → drop 4 (take n (bytesOf (w ∷ ws))) ≡ take (n - 4) (bytesOf ws)
+other-bytes zero w ws = refl
+other-bytes (suc zero) w ws = refl
+other-bytes (suc (suc zero)) w ws = refl
+other-bytes (suc (suc (suc zero))) w ws = refl
+other-bytes (suc (suc (suc (suc n)))) w ws = let e : suc (suc (suc (suc n))) - 4 ≡ n = omega arith in rw e
+
+all-bytes : (n w : ℕ) (ws : List ℕ) → dataBytes w n ++ take (n - 4) (bytesOf ws) ≡ take n (bytesOf (w ∷ ws))
+all-bytes n w ws = ap₂ _++_ (sym (first-bytes n w ws)) (sym (other-bytes n w ws)) ∙ take-append-drop 4 _
+
+-- the bytes of a word, by their place
+four-bytes : (word i : ℕ) → i < 4 → getD (byte word 0 ∷ byte word 1 ∷ byte word 2 ∷ byte word 3 ∷ []) i 0 ≡ byte word i
+four-bytes word zero h = refl
+four-bytes word (suc zero) h = refl
+four-bytes word (suc (suc zero)) h = refl
+four-bytes word (suc (suc (suc zero))) h = refl
+four-bytes word (suc (suc (suc (suc i)))) h = omega arith
+
+-- those of them that belong to the load
+pub data-byte : (word left i : ℕ) → i < min left 4 → getD (dataBytes word left) i 0 ≡ byte word i
+data-byte word left i h = getD-take left _ i 0 (omega arith) ∙ four-bytes word i (omega arith)
+
+pub data-length : (word left : ℕ) → length (dataBytes word left) ≡ min left 4
+data-length word left = length-take left _
+
+-- numbers with the same low bits feed the same
+fed-same : (r v u n : ℕ) → ((i : ℕ) → i < n → bit v i ≡ bit u i) → fed r v n ≡ fed r u n
+unfolding fed
+fed-same r v u zero same = refl
+fed-same r v u (suc n) same =
+    rw (same n (omega arith)) (fed-same (fedBit r (bit u n)) v u n (λ i h. same i (omega arith)))
+
+-- the bytes of a data word feed what the word feeds
+data-fed : (r n w : ℕ) → fed r (number (dataBytes w n)) (8 * length (dataBytes w n)) ≡ fed r w (8 * min n 4)
+data-fed r n w =
+    rw (data-length w n) (fed-same r (number (dataBytes w n)) w (8 * min n 4) (λ i h.
+    let parts : i ≡ 8 * (i / 8) + i % 8 = omega arith in
+    ap (bit (number (dataBytes w n))) parts
+    ∙ bit-number (dataBytes w n) (i / 8) (i % 8) (omega arith)
+    ∙ ap (λ (b : ℕ). bit b (i % 8)) (data-byte w n (i / 8) (omega arith))
+    ∙ bit-byte w (i / 8) (i % 8) (omega arith)
+    ∙ ap (bit w) (sym parts)))
+
+-- writes of the same bytes are the same
+put-same : (m : List ℕ) (at n : ℕ) (f g : ℕ → ℕ) → ((i : ℕ) → i < n → f i ≡ g i) → put m at n f ≡ put m at n g
+unfolding put
+put-same m at zero f g same = refl
+put-same m at (suc n) f g same =
+    ap₂ (λ (l : List ℕ) (b : ℕ). set l (at + n) b) (put-same m at n f g (λ i h. same i (omega arith))) (same n (omega arith))
+
+-- a write and then one just above it are one write
+put-append : (m : List ℕ) (at n j : ℕ) (f : ℕ → ℕ) → put (put m at n f) (at + n) j (λ i. f (n + i)) ≡ put m at (n + j) f
+unfolding put
+put-append m at n zero f = rw add-zero
+put-append m at n (suc j) f = rw (add-suc, add-assoc at n j, put-append m at n j f)
+
+-- bytes loaded and then others just above them
+loaded-append : (m : List ℕ) (p : ℕ) (xs ys : List ℕ) → loaded (loaded m p xs) (p + length xs) ys ≡ loaded m p (xs ++ ys)
+unfolding loaded
+loaded-append m p xs ys =
+    let all : ℕ → ℕ = λ i. getD (xs ++ ys) i 0 in
+    ap (λ (l : List ℕ). put l (p + length xs) (length ys) (λ i. getD ys i 0))
+    (put-same m p (length xs) _ all (λ i h. sym (List·getD-append xs ys 0 i h)))
+    ∙ put-same _ (p + length xs) (length ys) _ (λ i. all (length xs + i)) (λ i h. sym (getD-append-add xs ys i 0))
+    ∙ put-append m p (length xs) (length ys) all
+    ∙ ap (λ (n : ℕ). put m p n all) (sym (length-append xs ys))
+
+-- a data word where some are left
+data-step : (k : Core) (m : List ℕ) (p n w : ℕ) → 0 < n → k .stage .phase ≡ awaited (p + n) n
+    → wordStep k m w
+    ≡ quiet (await k (pick (k .on) (fed (k .tally .register) w (8 * min n 4)) (k .tally .register)) (awaited (p + n) (n - 4)))
+    leaving loaded m p (dataBytes w n)
+unfolding wordStep awaited
+data-step k m p n w more at =
+    ap (λ (x : Phase). inPhase x k m w) (at ∙ passed _ _ _ (ne-eqb n 0 (λ e. omega arith))) ∙ rw add-sub-cancel
+
+-- what the bytes of n more words feed, where the first of them is known
+fed-next : (on : Bool) (r n w : ℕ) (ws : List ℕ) → 0 < n
+    → pick on (wordsFed (pick on (fed r w (8 * min n 4)) r) ((n - 4 + 3) / 4) (take (n - 4) (bytesOf ws))) (pick on (fed r w (8 * min n 4)) r)
+    ≡ pick on (wordsFed r ((n + 3) / 4) (take n (bytesOf (w ∷ ws)))) r
+unfolding pick wordsFed
+fed-next true r n w ws more =
+    let left : ℕ = (n - 4 + 3) / 4 in
+    let count : (n + 3) / 4 ≡ suc left = omega arith in
+    sym
+    (ap (λ (c : ℕ). wordsFed r c (take n (bytesOf (w ∷ ws)))) count
+    ∙ ap₂ (λ (first other : List ℕ). wordsFed (fed r (number first) (8 * length first)) left other) (first-bytes n w ws) (other-bytes n w ws)
+    ∙ ap (λ (q : ℕ). wordsFed q left (take (n - 4) (bytesOf ws))) (data-fed r n w))
+fed-next false r n w ws more = refl
+
+-- none left to feed
+fed-none : (on : Bool) (r : ℕ) → r ≡ pick on (wordsFed r 0 []) r
+unfolding pick wordsFed
+fed-none true r = refl
+fed-none false r = refl
+
+-- nothing awaited, once none is left
+awaited-none : (end : ℕ) → awaited end 0 ≡ phase.Opcode
+unfolding awaited
+awaited-none end = chosen _ _ _ (eq-eqb 0 0 refl)
+
+-- the data of a load sent word by word: the bytes are those of the whole load, and so is what they feed
+pub pieces : (ws : List ℕ) (k : Core) (m : List ℕ) (p n : ℕ) → k .stage .phase ≡ awaited (p + n) n → length ws ≡ (n + 3) / 4
+    → (coreAfter k m ws
+    ≡ await k (pick (k .on) (wordsFed (k .tally .register) ((n + 3) / 4) (take n (bytesOf ws))) (k .tally .register)) phase.Opcode)
+    × (memoryAfter k m ws ≡ loaded m p (take n (bytesOf ws)))
+unfolding coreAfter memoryAfter loaded put
+pieces [] k m p zero at whole =
+    (ap₂ (λ (r : ℕ) (x : Phase). await k r x) (fed-none (k .on) (k .tally .register)) (at ∙ awaited-none (p + 0)), refl)
+pieces [] k m p (suc n) at whole = absurd (omega arith)
+pieces (w ∷ ws) k m p n at whole =
+    let more : 0 < n = omega arith in
+    let end : p + n ≡ p + length (dataBytes w n) + (n - 4) = omega (arith, data-length w n) in
+    let step = data-step k m p n w more at in
+    let next = await k (pick (k .on) (fed (k .tally .register) w (8 * min n 4)) (k .tally .register)) (awaited (p + n) (n - 4)) in
+    let rest =
+    pieces ws next (loaded m p (dataBytes w n)) (p + length (dataBytes w n)) (n - 4) (ap (λ (e : ℕ). awaited e (n - 4)) end) (omega arith) in (
+      ap (λ (o : Outcome). coreAfter (o .answer .core) (o .memory) ws) step
+          ∙ rest .0
+          ∙ ap (λ (r : ℕ). await k r phase.Opcode) (fed-next (k .on) (k .tally .register) n w ws more),
+      ap (λ (o : Outcome). memoryAfter (o .answer .core) (o .memory) ws) step
+          ∙ rest .1
+          ∙ loaded-append m p (dataBytes w n) (take (n - 4) (bytesOf ws))
+          ∙ ap (loaded m p) (all-bytes n w ws),
+    )
+
+-- words have four bytes each
+bytes-length : (ws : List ℕ) → length (bytesOf ws) ≡ 4 * length ws
+bytes-length [] = refl
+bytes-length (w ∷ ws) = omega (arith, bytes-length ws)
+
+-- address and size fed first, then the data: what the whole load feeds
+load-fed : (on : Bool) (r address n : ℕ) (bytes : List ℕ) → length bytes ≡ n
+    → pick on (wordsFed (pick on (fedWords r (address ∷ n ∷ [])) r) ((n + 3) / 4) bytes) (pick on (fedWords r (address ∷ n ∷ [])) r)
+    ≡ pick on (loadFed r address bytes) r
+unfolding pick loadFed
+load-fed true r address n bytes e = ap (λ (x : ℕ). wordsFed (fedWords r (address ∷ x ∷ [])) ((x + 3) / 4) bytes) (sym e)
+load-fed false r address n bytes e = refl
+
+-- a load from its size word on: to register and memory it does what the whole load does
+pub load-in-pieces : (k : Core) (m : List ℕ) (address size place : ℕ) (ws : List ℕ)
+    → k .stage .phase ≡ phase.LoadSize address → loadJudged (k .windows) address size ≡ Granted place → length ws ≡ (size + 3) / 4
+    → (coreAfter k m (size ∷ ws)
+    ≡ await k (pick (k .on) (loadFed (k .tally .register) address (take size (bytesOf ws))) (k .tally .register)) phase.Opcode)
+    × (memoryAfter k m (size ∷ ws) ≡ loaded m place (take size (bytesOf ws)))
+unfolding coreAfter memoryAfter wordStep
+load-in-pieces k m address size place ws at granted whole =
+    let r : ℕ = k .tally .register in
+    let step : wordStep k m size ≡ loadBegun k address size (Granted place) leaving m =
+    ap (λ (x : Phase). inPhase x k m size) at ∙ ap (λ (j : Judged). loadBegun k address size j leaving m) granted in
+    let next = await k (pick (k .on) (fedWords r (address ∷ size ∷ [])) r) (awaited (place + size) size) in
+    let rest = pieces ws next m place size refl whole in
+    let count : length (take size (bytesOf ws)) ≡ size = length-take-le size (bytesOf ws) (omega (arith, bytes-length ws)) in (
+      ap (λ (o : Outcome). coreAfter (o .answer .core) (o .memory) ws) step
+          ∙ rest .0
+          ∙ ap (λ (x : ℕ). await k x phase.Opcode) (load-fed (k .on) r address size _ count),
+      ap (λ (o : Outcome). memoryAfter (o .answer .core) (o .memory) ws) step ∙ rest .1,
+    )

@@ -1,0 +1,16 @@
+-- `sent::refuse` meets its contract: it puts together what it calls.
+use borrow.Author.Needs.{needs}
+use Rattle.sent.proofs.refuse.Statement.{statement}
+use Rattle.sent.proofs.refuse.Tie as tie
+
+silent-requires : tie.Need-silent-requires
+silent-requires c κs = search needs
+
+stopped-requires : tie.Need-stopped-requires
+stopped-requires c κs = search needs
+
+returns : tie.Need-returns
+returns c = rw (c .stopped .ensures, c .before .silent .ensures)
+
+pub refuse-spec : {M : Type 1} → statement M
+refuse-spec = tie.close (tie.spec silent-requires stopped-requires returns)

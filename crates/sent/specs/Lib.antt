@@ -1,0 +1,4 @@
+pub mod Line
+pub mod Machine
+pub mod Opening
+pub mod Replies

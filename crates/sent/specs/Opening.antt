@@ -1,0 +1,37 @@
+-- The opening of a sent session: BOOTME once, checksum off, register 0, awaiting the start word.
+use Prim.Native.Nat.{ℕ}
+use mathlib.Core.Bool.{Bool, true, false, not}
+use mathlib.Core.List.{List, [], _∷_}
+use lib.ListN.{replicate}
+use Rattle.words.specs.Choice.{pick}
+use Rattle.windows.specs.Map.{goodMap, keptOf, zeroWindow}
+use Rattle.windows.specs.declared.Window.{Window}
+use Rattle.script.specs.declared.Refusal.the-variants.{None, Map}
+use Rattle.sent.specs.declared.Opened.{Opened}
+use Rattle.sent.specs.declared.Phase.the-variants as phase
+use Rattle.sent.specs.declared.Session.{Session}
+
+-- the greeting, BOOTME
+abbrev pub greeting : List ℕ
+greeting = 0x42 ∷ 0x4F ∷ 0x4F ∷ 0x54 ∷ 0x4D ∷ 0x45 ∷ []
+
+-- a session at the very start, or one that never opened
+abbrev pub atStart : List Window → Bool → Session
+atStart windows ended =
+    record {
+      core = record {
+        windows = windows;
+        ended = ended;
+        on = false;
+        begun = false;
+        tally = record { register = 0 };
+        stage = record { phase = phase.Opcode };
+      };
+      line = record { started = false; have = 0; word = 0 };
+    }
+
+-- 1: a refused opening gives an ended session, all else of it zero or off
+unfoldable pub openedBy : ℕ → List Window → Opened
+openedBy count windows =
+    pick (not (goodMap count windows)) (record { refusal = Map; session = atStart (replicate 8 zeroWindow) true })
+    (record { refusal = None; session = atStart (keptOf count windows) false })
