@@ -41,6 +41,10 @@ use Rattle.sent.proofs.take_word.Reads as take_word
 use Rattle.sent.specs.Line.{Outcome}
 use Rattle.sent.specs.declared.Session.{Session}
 use Rattle.port.specs.Port.{isGiven}
+use Rattle.maps.proofs.count_of.Reads as count_of
+use Rattle.maps.proofs.windows_of.Reads as windows_of
+use Rattle.bench.proofs.ais_flash_run.Reads as ais_flash_run
+use Rattle.bench.proofs.ais_sent_session.Reads as ais_sent_session
 use Rattle.port.specs.declared.Told.{Told}
 
 module _ {K : Type 0} {A R E : K → Type 0} (Post : (κs : K) → A κs → R κs → E κs → Type 0) where
@@ -180,3 +184,18 @@ take-word-unique κs a r s e f = both-same
 pub port-feed-unique : (o : Outcome) {s t : Session} {r q : Told} {m n : List ℕ} → isGiven o s r m → isGiven o t q n
     → (s ≡ t) × (r ≡ q) × (m ≡ n)
 port-feed-unique o a b = (same (a .0) (b .0), same (a .1) (b .1), same (a .2) (b .2))
+
+-- maps
+pub count-of-unique : OneResult count_of.Post
+count-of-unique κs a r s e f = same
+
+pub windows-of-unique : OneResult windows_of.Post
+windows-of-unique κs a r s e f = same
+
+-- bench: the sent entry has a memory and a room
+pub ais-flash-run-unique : OneResultAndMemory ais_flash_run.Post (λ κs e. now (e .1 .0))
+ais-flash-run-unique κs a r s e f = both-same
+
+pub ais-sent-session-unique : Coincide ais_sent_session.Post
+    (λ κs r s e f. (r ≡ s) × ((now (e .1 .0) ≡ now (f .1 .0)) × (now (e .1 .1 .1 .0) ≡ now (f .1 .1 .1 .0))))
+ais-sent-session-unique κs a r s e f p q = (same (p .0) (q .0), both-same (p .1) (q .1))

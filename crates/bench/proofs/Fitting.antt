@@ -1,0 +1,146 @@
+-- The replies to n bytes are at most 2 × n bytes: each byte fed pays for two, what is gathered of a word is not yet spent, a start word takes
+-- one and a whole word at most the eight that its four bytes paid for.
+use Prim.Native.Nat.{ℕ, _+_, _*_, _≤_}
+use mathlib.Core.List.{List, [], _∷_}
+use mathlib.Core.Logic.{_≢_}
+use mathlib.Core.Path.{_≡_, refl}
+use native.Mathlib.Omega.{arith}
+use borrow.Author.Tests.{ltb-false, eqb-false}
+use lib.ListN.{length, length-append}
+use Rattle.words.proofs.Choice.{of-choice}
+use Rattle.windows.specs.declared.Window.{Window}
+use Rattle.script.specs.Answers.{numberOf}
+use Rattle.script.specs.Opcodes.{lookedUp}
+use Rattle.script.specs.declared.Command.{Command}
+use Rattle.script.specs.declared.Command.the-variants as command
+use Rattle.script.specs.declared.Found.{Found}
+use Rattle.script.specs.declared.Found.the-variants.{Known, Unknown}
+use Rattle.script.specs.declared.Mode.the-variants.{Sent}
+use Rattle.script.specs.declared.Refusal.{Refusal}
+use Rattle.commands.specs.Commands.{loadJudged}
+use Rattle.commands.specs.declared.Done.{Done}
+use Rattle.commands.specs.declared.Judged.{Judged}
+use Rattle.commands.specs.declared.Judged.the-variants.{Granted, Refused}
+use Rattle.sent.specs.Line.{Outcome, pushed, carried, byteStep}
+use Rattle.sent.specs.Machine as machine
+use Rattle.sent.specs.Machine.{after, opcodeTaken, atOpcode, loadBegun, inPhase, wordStep}
+use Rattle.sent.specs.Opening.{openedBy}
+use Rattle.sent.specs.Replies.{silence, oneWord, twoWords, sentBytes}
+use Rattle.sent.specs.declared.Core.{Core}
+use Rattle.sent.specs.declared.Line.{Line}
+use Rattle.sent.specs.declared.Opened.{Opened}
+use Rattle.sent.specs.declared.Phase.{Phase}
+use Rattle.sent.specs.declared.Phase.the-variants as phase
+use Rattle.sent.specs.declared.Reply.{Reply}
+use Rattle.sent.specs.declared.Session.{Session}
+use Rattle.sent.specs.declared.Taken.{Taken}
+use Rattle.bench.specs.Feeding.{fedAll}
+
+-- what answers a whole word: nothing, or one word or two where it is accepted
+data Says (q : Refusal) : Reply → Type 0 where
+  nothing : Says q silence
+  one : (v : ℕ) → numberOf q ≡ 0 → Says q (oneWord v)
+  two : (v w : ℕ) → numberOf q ≡ 0 → Says q (twoWords v w)
+
+most-eight : {q : Refusal} {r : Reply} → Says q r → length (sentBytes r) ≤ 8
+unfolding oneWord twoWords
+most-eight nothing = omega arith
+most-eight (one v e) = omega arith
+most-eight (two v w e) = omega arith
+
+refused-silent : {q : Refusal} {r : Reply} → Says q r → numberOf q ≢ 0 → length (sentBytes r) ≡ 0
+refused-silent nothing refused = refl
+refused-silent (one v e) refused = absurd (refused e)
+refused-silent (two v w e) refused = absurd (refused e)
+
+-- each word, by the phase that awaits it
+abbrev Spoken : Taken → Type 0
+Spoken t = Says (t .refusal) (t .reply)
+
+module _ (k : Core) where
+  after-spoken : (done : Done) → Spoken (after k done)
+  unfolding after
+  after-spoken done = of-choice Spoken _ (λ e. nothing) (λ e. nothing)
+
+  opcode-spoken : (opcode : ℕ) (c : Command) → Spoken (opcodeTaken k opcode c)
+  opcode-spoken opcode command.Load = one _ refl
+  opcode-spoken opcode command.Fill = one _ refl
+  opcode-spoken opcode command.BootTable = one _ refl
+  opcode-spoken opcode command.Enable = one _ refl
+  opcode-spoken opcode command.Disable = one _ refl
+  opcode-spoken opcode command.Request = two _ _ refl
+  opcode-spoken opcode command.StartOver = one _ refl
+  opcode-spoken opcode command.Jump = one _ refl
+  opcode-spoken opcode command.JumpAndClose = one _ refl
+  opcode-spoken opcode command.Ping = one _ refl
+  opcode-spoken opcode command.SequentialRead = nothing
+
+  found-spoken : (opcode : ℕ) (found : Found) → Spoken (atOpcode k opcode found)
+  found-spoken opcode Unknown = nothing
+  found-spoken opcode (Known c words) = opcode-spoken opcode c
+
+  load-spoken : (address size : ℕ) (j : Judged) → Spoken (loadBegun k address size j)
+  load-spoken address size (Granted place) = nothing
+  load-spoken address size (Refused q) = nothing
+
+  phase-spoken : (m : List ℕ) (word : ℕ) (p : Phase) → Spoken (inPhase p k m word .answer)
+  phase-spoken m word phase.Opcode = found-spoken word (lookedUp word Sent)
+  phase-spoken m word phase.LoadAddress = nothing
+  phase-spoken m word (phase.LoadSize address) = load-spoken address word (loadJudged (k .windows) address word)
+  phase-spoken m word (phase.Data end left) = nothing
+  phase-spoken m word phase.FillAddress = nothing
+  phase-spoken m word (phase.FillSize address) = nothing
+  phase-spoken m word (phase.FillType address size) = nothing
+  phase-spoken m word (phase.FillPattern address size kind) = after-spoken _
+  phase-spoken m word phase.SetType = nothing
+  phase-spoken m word (phase.SetAddress kind) = nothing
+  phase-spoken m word (phase.SetData kind address) = nothing
+  phase-spoken m word (phase.SetDelay kind address value) = after-spoken _
+  phase-spoken m word phase.JumpTo = after-spoken _
+  phase-spoken m word phase.CloseTo = after-spoken _
+  phase-spoken m word phase.PingCount = one _ refl
+  phase-spoken m word (phase.PingWords n) = one _ refl
+
+  word-spoken : (m : List ℕ) (word : ℕ) → Spoken (wordStep k m word .answer)
+  unfolding wordStep
+  word-spoken m word = phase-spoken m word (k .stage .phase)
+
+module _ (s : Session) where
+  -- two bytes for the byte fed and for each that was gathered pay for the reply, and for what is gathered now
+  abbrev Pays : Outcome → Type 0
+  Pays o = length (sentBytes (o .answer .reply)) + 2 * o .answer .session .line .have ≤ 2 * s .line .have + 2
+
+  carried-pays : (o : machine.Outcome) → Spoken (o .answer) → 3 ≤ s .line .have → Pays (carried s o)
+  unfolding carried
+  carried-pays o says whole =
+      of-choice (λ (l : Line). length (sentBytes (o .answer .reply)) + 2 * l .have ≤ 2 * s .line .have + 2) _
+      (λ e. omega (arith, most-eight says))
+      (λ e. omega (arith, refused-silent says (eqb-false _ _ e)))
+
+  pub step-pays : (m : List ℕ) (b : ℕ) → Pays (byteStep s m b)
+  unfolding byteStep
+  step-pays m b =
+      of-choice Pays _ (λ e. omega arith)
+      (λ e. of-choice Pays _ (λ e. omega arith)
+      (λ e. of-choice Pays _ (λ e. omega arith)
+      (λ e. of-choice Pays _ (λ e. omega arith)
+      (λ e. of-choice Pays _ (λ e. omega arith)
+      (λ whole. carried-pays _ (word-spoken (s .core) m (pushed (s .line .word) b)) (ltb-false _ _ whole))))))
+
+-- all replies to bytes that are fed
+pub replies-fit : (s : Session) (m bytes : List ℕ) → length (fedAll s m bytes .replies) ≤ 2 * s .line .have + 2 * length bytes
+unfolding fedAll
+replies-fit s m [] = omega arith
+replies-fit s m (b ∷ bytes) =
+    let o = byteStep s m b in
+    omega (
+      arith,
+      length-append (sentBytes (o .answer .reply)) (fedAll (o .answer .session) (o .memory) bytes .replies),
+      step-pays s m b,
+      replies-fit (o .answer .session) (o .memory) bytes,
+    )
+
+-- an opening has gathered nothing
+pub opened-idle : (count : ℕ) (windows : List Window) → openedBy count windows .session .line .have ≡ 0
+unfolding openedBy
+opened-idle count windows = of-choice (λ (o : Opened). o .session .line .have ≡ 0) _ (λ e. refl) (λ e. refl)

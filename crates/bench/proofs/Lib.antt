@@ -1,0 +1,4 @@
+pub mod Cases
+pub mod Fitting
+pub mod Laws
+pub mod Reaching

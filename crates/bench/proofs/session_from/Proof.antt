@@ -1,0 +1,83 @@
+-- `bench::session_from` meets its contract: each way is one case of the opening.
+use borrow.Author.Needs.{needs}
+use mathlib.Core.Path.{sym, _∙_}
+use lib.ListN.{length}
+use borrow.Author.Tests.{not-true, not-false}
+use Rattle.bench.proofs.Cases.{has-room, untouched, from-refused, from-memory, from-narrow, from-fed}
+use Rattle.bench.proofs.session_from.Statement.{statement}
+use Rattle.bench.proofs.session_from.Tie as tie
+
+number-requires : tie.Need-number-requires
+number-requires c κs = search needs
+
+refuse-requires : tie.Need-refuse-requires
+refuse-requires c κs = search needs
+
+returns : tie.Need-returns
+returns c =
+    let a = c .before .before .before .before .before .before .args in
+    rw (from-refused (a .opened) (a .memory .now) (a .fed .now) (length (a .room .now)) (λ e. c .before .if1 .taken (c .before .before .number .ensures ∙ e)))
+    (untouched _ _ _ _ (c .refuse .ensures))
+
+sum-requires : tie.Need-sum-requires
+sum-requires c κs = search needs
+
+refuse-requires-2 : tie.Need-refuse-requires-2
+refuse-requires-2 c κs = search needs
+
+returns-2 : tie.Need-returns-2
+returns-2 c =
+    let a = c .before .before .before .before .before .before .before .before .before .before .args in
+    let opened = sym (c .before .before .before .before .before .before .number .ensures) ∙ c .before .before .before .before .before .if1 .left in
+    rw (from-memory (a .opened) (a .memory .now) (a .fed .now) (length (a .room .now)) opened (λ e. c .before .if2 .taken (e ∙ sym (c .before .before .sum .ensures))))
+    (untouched _ _ _ _ (c .refuse2 .ensures))
+
+is-roomy-requires : tie.Need-is-roomy-requires
+is-roomy-requires c κs = search needs
+
+refuse-requires-3 : tie.Need-refuse-requires-3
+refuse-requires-3 c κs = search needs
+
+returns-3 : tie.Need-returns-3
+returns-3 c =
+    let a = c .before .before .before .before .before .before .before .before .before .before .before .before .args in
+    let opened = sym (c .before .before .before .before .before .before .before .before .number .ensures) ∙ c .before .before .before .before .before .before .before .if1 .left in
+    let lent = c .before .before .before .if2 .left ∙ c .before .before .before .before .sum .ensures in
+    let narrow = sym (c .before .before .is-roomy .ensures) ∙ not-true _ (c .before .if3 .taken) in
+    rw (from-narrow (a .opened) (a .memory .now) (a .fed .now) (length (a .room .now)) opened lent narrow)
+    (untouched _ _ _ _ (c .refuse3 .ensures))
+
+feed-all-requires : tie.Need-feed-all-requires
+feed-all-requires c κs = (c .before .before .before .before .before .before .before .before .before .before .before .before .before .pre, has-room _ _ (sym (c .before .before .before .is-roomy .ensures) ∙ not-false _ (c .before .before .if3 .left)))
+
+same-length : tie.Need-same-length
+same-length c = search needs
+
+same-length-2 : tie.Need-same-length-2
+same-length-2 c = search needs
+
+returns-4 : tie.Need-returns-4
+returns-4 c =
+    let a = c .before .before .before .before .before .before .before .before .before .before .before .before .before .before .before .before .before .before .args in
+    let opened = sym (c .before .before .before .before .before .before .before .before .before .before .before .before .before .before .number .ensures) ∙ c .before .before .before .before .before .before .before .before .before .before .before .before .before .if1 .left in
+    let lent = c .before .before .before .before .before .before .before .before .before .if2 .left ∙ c .before .before .before .before .before .before .before .before .before .before .sum .ensures in
+    let wide = sym (c .before .before .before .before .before .before .before .before .is-roomy .ensures) ∙ not-false _ (c .before .before .before .before .before .before .before .if3 .left) in
+    rw (from-fed (a .opened) (a .memory .now) (a .fed .now) (length (a .room .now)) opened lent wide) (c .before .before .before .before .feed-all .ensures)
+
+pub session-from-spec : {M : Type 1} → statement M
+session-from-spec =
+    tie.close
+    (tie.spec
+    number-requires
+    refuse-requires
+    returns
+    sum-requires
+    refuse-requires-2
+    returns-2
+    is-roomy-requires
+    refuse-requires-3
+    returns-3
+    feed-all-requires
+    same-length
+    same-length-2
+    returns-4)

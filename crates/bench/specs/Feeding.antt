@@ -1,0 +1,84 @@
+-- One whole sent session for the bench: from the map's bytes and the bytes fed to one number, the memory and the room for replies.
+use Prim.Native.Nat.{ℕ, _+_, _*_, _^_}
+use mathlib.Core.Bool.{Bool, not, _&&_}
+use mathlib.Core.List.{List, [], _∷_, _++_}
+use lib.Dec.{eqb, leb}
+use lib.ListN.{length, drop}
+use Rattle.words.specs.Choice.{pick}
+use Rattle.windows.specs.Window.{sumOf}
+use Rattle.script.specs.Answers.{numberOf}
+use Rattle.script.specs.declared.Refusal.the-variants as refusal
+use Rattle.sent.specs.Line.{Outcome, byteStep}
+use Rattle.sent.specs.Opening.{greeting, openedBy}
+use Rattle.sent.specs.Replies.{sentBytes}
+use Rattle.sent.specs.declared.Opened.{Opened}
+use Rattle.sent.specs.declared.Session.{Session}
+use Rattle.maps.specs.Map.{windowsOf, countOf}
+
+-- what feeding bytes comes to: the reply bytes in order, the number of the first refusal or 0, and the memory that is left
+pub record Fed : Type 0 where
+  pub replies : List ℕ
+  pub refusal : ℕ
+  pub memory : List ℕ
+
+-- nothing fed and no reply
+abbrev pub unfed : ℕ → List ℕ → Fed
+unfed q m = record { replies = []; refusal = q; memory = m }
+
+-- the first of two refusals, each 0 where there is none
+unfoldable pub firstOf : ℕ → ℕ → ℕ
+firstOf q r = pick (eqb q 0) r q
+
+-- the answer to a byte, and what the bytes after it come to
+abbrev pub joined : Outcome → Fed → Fed
+joined o rest =
+    record {
+      replies = sentBytes (o .answer .reply) ++ rest .replies;
+      refusal = firstOf (numberOf (o .answer .refusal)) (rest .refusal);
+      memory = rest .memory;
+    }
+
+-- bytes fed to a session one after the other
+unfoldable pub fedAll : Session → List ℕ → List ℕ → Fed
+fedAll s m [] = unfed 0 m
+fedAll s m (b ∷ bs) = joined (byteStep s m b) (fedAll (byteStep s m b .answer .session) (byteStep s m b .memory) bs)
+
+-- with BOOTME before the replies
+abbrev pub greeted : Fed → Fed
+greeted f = record { replies = greeting ++ f .replies; refusal = f .refusal; memory = f .memory }
+
+-- at most 65,536 bytes are fed, and the room has 6 + 2 × n bytes
+unfoldable pub roomy : ℕ → ℕ → Bool
+roomy n room = leb n 65536 && leb (6 + 2 * n) room
+
+-- a session from its opening: 1, 2, 19, else the bytes are fed
+unfoldable pub sessionFrom : Opened → List ℕ → List ℕ → ℕ → Fed
+sessionFrom o memory bytes room =
+    pick (not (eqb (numberOf (o .refusal)) 0)) (unfed (numberOf (o .refusal)) memory)
+    (pick (not (eqb (length memory) (sumOf (o .session .core .windows)))) (unfed (numberOf refusal.Memory) memory)
+    (pick (not (roomy (length bytes) room)) (unfed (numberOf refusal.Call) memory)
+    (greeted (fedAll (o .session) memory bytes))))
+
+-- a session on a map's bytes
+abbrev pub sentSession : List ℕ → List ℕ → List ℕ → List ℕ → Fed
+sentSession map memory bytes room = sessionFrom (openedBy (countOf map) (windowsOf map)) memory bytes (length room)
+
+-- the first refusal and the count of reply bytes in one number
+unfoldable pub tallied : Fed → ℕ
+tallied f = f .refusal * 2 ^ 32 + length (f .replies)
+
+-- the replies at the front of the room, what is past them unchanged
+unfoldable pub laidIn : List ℕ → Fed → List ℕ
+laidIn room f = f .replies ++ drop (length (f .replies)) room
+
+-- the value that the bench gets
+abbrev pub sentValue : List ℕ → List ℕ → List ℕ → List ℕ → ℕ
+sentValue map memory bytes room = tallied (sentSession map memory bytes room)
+
+-- the memory that the session leaves
+abbrev pub sentMemory : List ℕ → List ℕ → List ℕ → List ℕ → List ℕ
+sentMemory map memory bytes room = sentSession map memory bytes room .memory
+
+-- the room that it leaves
+abbrev pub sentRoom : List ℕ → List ℕ → List ℕ → List ℕ → List ℕ
+sentRoom map memory bytes room = laidIn room (sentSession map memory bytes room)

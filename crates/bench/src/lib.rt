@@ -1,0 +1,183 @@
+// The bench's entries for C: whole sessions on byte slices, answered by one number.
+ghost use mathlib.Core.Path.{_≡_};
+ghost use Prim.Native.Nat.{_+_, _*_, _^_, _≤_};
+ghost use lib.ListN.{length};
+ghost use lib.Seq.{sets};
+ghost use Rattle.script.specs.Answers.{numberOf};
+ghost use Rattle.sent.specs.Opening.{greeting};
+ghost use Rattle.sent.specs.Replies.{sentBytes};
+ghost use Rattle.bench.specs.Feeding.{firstOf, fedAll, greeted, roomy, sessionFrom, tallied, laidIn, sentValue, sentMemory, sentRoom};
+ghost use Rattle.bench.specs.Runs.{ranFrom, reported, flashValue, flashMemory};
+use flash::Called;
+use flash::Opened;
+use flash::Session;
+use script::Event;
+use script::Refusal;
+use sent::Reply;
+
+// An answer in one number: refusal, retries, offset of the last command in words, register.
+fn report(called: Called) -> u64
+    requires { ⌜ called .at ≤ 65536 ⌝ }
+    ensures { λ r. ⌜ r ≡ reported called ⌝ }
+{
+    let refusal = called.refusal;
+    let number = refusal.number() as u64;
+    let retries = called.session.retries as u64;
+    let words = (called.at as u64) / 4;
+    (number << 56) + (retries << 48) + (words << 32) + (called.session.register as u64)
+}
+
+// Runs the image from an opening; where that is refused, nothing is run.
+fn run_from(opened: Opened, memory: &mut [u8], image: &[u8]) -> Called
+    ensures { λ r. ⌜ r ≡ ranFrom opened (now (memory .entry)) (now (image .entry)) .answer ⌝ }
+    ensures { λ _. ⌜ now (memory .exit) ≡ ranFrom opened (now (memory .entry)) (now (image .entry)) .memory ⌝ }
+{
+    let refusal = opened.refusal;
+    let session = opened.session;
+    if refusal.number() == 0 {
+        return runs::run(session, memory, image);
+    }
+    Called {
+        refusal,
+        event: Event::Nothing,
+        at: 0,
+        session,
+    }
+}
+
+// One whole flash run of an unchanged image.
+#[no_mangle]
+pub extern "C" fn ais_flash_run(map: &[u8], memory: &mut [u8], image: &[u8], limit: u8) -> u64
+    ensures { λ r. ⌜ r ≡ flashValue (now (map .entry)) (now (memory .entry)) (now (image .entry)) limit ⌝ }
+    ensures { λ _. ⌜ now (memory .exit) ≡ flashMemory (now (map .entry)) (now (memory .entry)) (now (image .entry)) limit ⌝ }
+{
+    let opened = Session::open(maps::count_of(map), maps::windows_of(map), image, limit);
+    report(run_from(opened, memory, image))
+}
+
+// BOOTME as a reply.
+fn greet() -> Reply
+    ensures { λ r. ⌜ sentBytes r ≡ greeting ⌝ }
+{
+    let letters = sent::Session::GREETING;
+    Reply {
+        bytes: [
+            letters[0],
+            letters[1],
+            letters[2],
+            letters[3],
+            letters[4],
+            letters[5],
+            0,
+            0,
+        ],
+        count: 6,
+    }
+}
+
+// Writes a reply into the room from a place on; the place past it.
+fn put_reply(room: &mut [u8], at: usize, reply: Reply) -> usize
+    requires { ⌜ at ≤ length (now room) ⌝ }
+    ensures { λ r. ⌜ r ≡ at + length (sentBytes reply) ⌝ }
+    ensures { λ _. ⌜ now (room .exit) ≡ sets (now (room .entry)) at (sentBytes reply) ⌝ }
+{
+    let bytes = reply.bytes;
+    let count = reply.count as usize;
+    let mut i: usize = 0;
+    while i < sent::Session::MOST_REPLY {
+        if count <= i {
+            return at + i;
+        }
+        words::put_byte(room, at + i, bytes[i]);
+        i += 1;
+    }
+    at + i
+}
+
+// The first of two refusals.
+fn first_of(first: u8, refusal: Refusal) -> u8
+    ensures { λ r. ⌜ r ≡ firstOf first (numberOf refusal) ⌝ }
+{
+    if first == 0 {
+        return refusal.number();
+    }
+    first
+}
+
+// Feeds all bytes; the replies go to the room, BOOTME first.
+fn feed_all(session: sent::Session, memory: &mut [u8], fed: &[u8], room: &mut [u8]) -> u64
+    requires { ⌜ (session .line .have ≡ 0) × ((length (now fed) ≤ 65536) × (6 + 2 * length (now fed) ≤ length (now room))) ⌝ }
+    ensures { λ r. ⌜ r ≡ tallied (greeted (fedAll session (now (memory .entry)) (now (fed .entry)))) ⌝ }
+    ensures { λ _. ⌜ now (memory .exit) ≡ fedAll session (now (memory .entry)) (now (fed .entry)) .memory ⌝ }
+    ensures { λ _. ⌜ now (room .exit) ≡ laidIn (now (room .entry)) (greeted (fedAll session (now (memory .entry)) (now (fed .entry)))) ⌝ }
+{
+    let mut count = put_reply(room, 0, greet());
+    let mut first: u8 = 0;
+    let mut live = session;
+    let mut i: usize = 0;
+    while i < fed.len() {
+        let answer = live.step(memory, fed[i]);
+        let refusal = answer.refusal;
+        let reply = answer.reply;
+        count = put_reply(room, count, reply);
+        first = first_of(first, refusal);
+        live = answer.session;
+        i += 1;
+    }
+    ((first as u64) << 32) + (count as u64)
+}
+
+// Are so many bytes fed, and is the room long enough for all replies to them?
+fn is_roomy(n: usize, room: usize) -> bool
+    ensures { λ r. ⌜ r ≡ roomy n room ⌝ }
+{
+    if n <= 65536 {
+        return 6 + 2 * n <= room;
+    }
+    false
+}
+
+// The value of a session that is refused before anything is fed.
+fn refuse(refusal: Refusal) -> u64
+    ensures { λ r. ⌜ r ≡ numberOf refusal * 2 ^ 32 ⌝ }
+{
+    (refusal.number() as u64) << 32
+}
+
+// A session from its opening.
+fn session_from(opened: sent::Opened, memory: &mut [u8], fed: &[u8], room: &mut [u8]) -> u64
+    requires { ⌜ opened .session .line .have ≡ 0 ⌝ }
+    ensures { λ r. ⌜ r ≡ tallied (sessionFrom opened (now (memory .entry)) (now (fed .entry)) (length (now (room .entry)))) ⌝ }
+    ensures { λ _. ⌜ now (memory .exit) ≡ sessionFrom opened (now (memory .entry)) (now (fed .entry)) (length (now (room .entry))) .memory ⌝ }
+    ensures { λ _. ⌜ now (room .exit) ≡ laidIn (now (room .entry)) (sessionFrom opened (now (memory .entry)) (now (fed .entry)) (length (now (room .entry)))) ⌝ }
+{
+    let refusal = opened.refusal;
+    if refusal.number() != 0 {
+        return refuse(refusal);
+    }
+    let session = opened.session;
+    let windows = session.core.windows;
+    if memory.len() != windows::sum(windows) {
+        return refuse(Refusal::Memory);
+    }
+    if !is_roomy(fed.len(), room.len()) {
+        return refuse(Refusal::Call);
+    }
+    feed_all(session, memory, fed, room)
+}
+
+// One whole sent session.
+#[no_mangle]
+pub extern "C" fn ais_sent_session(
+    map: &[u8],
+    memory: &mut [u8],
+    fed: &[u8],
+    room: &mut [u8],
+) -> u64
+    ensures { λ r. ⌜ r ≡ sentValue (now (map .entry)) (now (memory .entry)) (now (fed .entry)) (now (room .entry)) ⌝ }
+    ensures { λ _. ⌜ now (memory .exit) ≡ sentMemory (now (map .entry)) (now (memory .entry)) (now (fed .entry)) (now (room .entry)) ⌝ }
+    ensures { λ _. ⌜ now (room .exit) ≡ sentRoom (now (map .entry)) (now (memory .entry)) (now (fed .entry)) (now (room .entry)) ⌝ }
+{
+    let opened = sent::Session::open(maps::count_of(map), maps::windows_of(map));
+    session_from(opened, memory, fed, room)
+}

@@ -1,0 +1,209 @@
+/* Measures the proved loader and the plain one on the same work, in turns, and prints the ratio of their times.
+
+   benchmark [HIGHEST_RATIO] ends with status 1 when a ratio is above the one given. */
+#include "ais.h"
+#include "plain_loader.h"
+
+#include <inttypes.h>
+#include <stdbool.h>
+#include <stdio.h>
+#include <stdlib.h>
+#include <string.h>
+#include <time.h>
+
+enum { MEMORY_LENGTH = 65536, SCRIPT_LIMIT = 65536, ROOM_LENGTH = 6 + 2 * SCRIPT_LIMIT };
+enum { ROUNDS = 301, FILL_COUNT = 16, LOAD_ROOM = 1024 };
+
+enum { FIRST_WORD = 0x41504954 };
+enum { LOAD = 0x58535901, ENABLE = 0x58535903, JUMP_AND_CLOSE = 0x58535906, FILL = 0x5853590A };
+
+static const uint32_t WINDOW[] = {0x80000000, MEMORY_LENGTH, 7};
+
+/* One piece of work: a script to feed, or an image to run. */
+struct work {
+    const char *name;
+    bool is_flash;
+    unsigned repeats; /* runs in one measurement */
+    uint8_t script[SCRIPT_LIMIT];
+    size_t length;
+};
+
+struct loader {
+    uint64_t (*sent)(const uint8_t *, size_t, uint8_t *, size_t, const uint8_t *, size_t, uint8_t *, size_t);
+    uint64_t (*flash)(const uint8_t *, size_t, uint8_t *, size_t, const uint8_t *, size_t, uint8_t);
+    uint64_t value;
+    double seconds[ROUNDS];
+};
+
+/* Both loaders are lent the same bytes, so that their place in memory is no difference between them. */
+struct lent {
+    uint8_t memory[MEMORY_LENGTH];
+    uint8_t room[ROOM_LENGTH];
+};
+
+static struct loader proved = {.sent = ais_sent_session, .flash = ais_flash_run};
+static struct loader plain = {.sent = plain_sent_session, .flash = plain_flash_run};
+static struct lent lent;
+static uint8_t map[sizeof WINDOW];
+
+/* ---- Making the work ---- */
+
+static void put_word(uint8_t *bytes, uint32_t word)
+{
+    for (unsigned index = 0; index < 4; index++)
+        bytes[index] = (uint8_t)(word >> (8 * index));
+}
+
+static void add_word(struct work *work, uint32_t word)
+{
+    put_word(work->script + work->length, word);
+    work->length += 4;
+}
+
+static void begin_work(struct work *work, const char *name, bool is_flash, bool checksum_on)
+{
+    work->name = name;
+    work->is_flash = is_flash;
+    work->length = 0;
+    if (is_flash)
+        add_word(work, FIRST_WORD);
+    else
+        work->script[work->length++] = 0x58;
+    if (checksum_on)
+        add_word(work, ENABLE);
+}
+
+static void end_work(struct work *work)
+{
+    add_word(work, JUMP_AND_CLOSE);
+    add_word(work, WINDOW[0]);
+}
+
+/* One long load of changing words. */
+static void make_load(struct work *work, const char *name, bool is_flash, bool checksum_on)
+{
+    uint32_t size = SCRIPT_LIMIT - LOAD_ROOM, word = 1;
+
+    begin_work(work, name, is_flash, checksum_on);
+    work->repeats = checksum_on ? 1 : is_flash ? 50 : 4;
+    add_word(work, LOAD);
+    add_word(work, WINDOW[0]);
+    add_word(work, size);
+    for (uint32_t done = 0; done < size; done += 4, word = word * 1664525 + 1013904223)
+        add_word(work, word);
+    end_work(work);
+}
+
+/* Many fills of the whole memory. */
+static void make_fills(struct work *work, const char *name, uint32_t type)
+{
+    begin_work(work, name, true, false);
+    work->repeats = 1;
+    for (unsigned count = 0; count < FILL_COUNT; count++) {
+        add_word(work, FILL);
+        add_word(work, WINDOW[0]);
+        add_word(work, MEMORY_LENGTH);
+        add_word(work, type);
+        add_word(work, 0x01234567 * (count + 1));
+    }
+    end_work(work);
+}
+
+/* ---- Measuring ---- */
+
+static double now(void)
+{
+    struct timespec time;
+
+    clock_gettime(CLOCK_MONOTONIC, &time);
+    return (double)time.tv_sec + (double)time.tv_nsec * 1e-9;
+}
+
+static double measure(struct loader *loader, const struct work *work)
+{
+    double begin = now();
+
+    for (unsigned count = 0; count < work->repeats; count++) {
+        if (work->is_flash)
+            loader->value =
+                loader->flash(map, sizeof map, lent.memory, MEMORY_LENGTH, work->script, work->length, 0);
+        else
+            loader->value = loader->sent(map, sizeof map, lent.memory, MEMORY_LENGTH, work->script, work->length,
+                                         lent.room, ROOM_LENGTH);
+    }
+    return (now() - begin) / work->repeats;
+}
+
+static int by_size(const void *left, const void *right)
+{
+    double difference = *(const double *)left - *(const double *)right;
+
+    return difference < 0 ? -1 : difference > 0;
+}
+
+static double median(double *numbers)
+{
+    qsort(numbers, ROUNDS, sizeof *numbers, by_size);
+    return numbers[ROUNDS / 2];
+}
+
+/* Runs both once from the same beginning, and stops where they differ. */
+static void check_same(const struct work *work)
+{
+    static struct lent proved_lent;
+
+    memset(&lent, 0, sizeof lent);
+    measure(&proved, work);
+    proved_lent = lent;
+    memset(&lent, 0, sizeof lent);
+    measure(&plain, work);
+    if (proved.value == plain.value && memcmp(&proved_lent, &lent, sizeof lent) == 0)
+        return;
+    printf("%s: the two loaders differ\n", work->name);
+    exit(2);
+}
+
+/* Measures one piece of work, the loaders by turns, each first in every other round. The ratio that it gives
+   back is the median of the rounds' ratios: what else the machine does slows both halves of a round alike. */
+static double measure_both(const struct work *work)
+{
+    static double ratios[ROUNDS];
+    double ratio;
+
+    check_same(work);
+    for (unsigned round = 0; round < ROUNDS; round++) {
+        if (round % 2 == 0)
+            proved.seconds[round] = measure(&proved, work);
+        plain.seconds[round] = measure(&plain, work);
+        if (round % 2 != 0)
+            proved.seconds[round] = measure(&proved, work);
+        ratios[round] = proved.seconds[round] / plain.seconds[round];
+    }
+    ratio = median(ratios);
+    printf("%-32s %12.1f %12.1f %8.2f\n", work->name, median(proved.seconds) * 1e6, median(plain.seconds) * 1e6,
+           ratio);
+    return ratio;
+}
+
+int main(int argument_count, char **arguments)
+{
+    static struct work works[7];
+    double allowed = argument_count > 1 ? strtod(arguments[1], NULL) : 1e9, highest = 0;
+
+    for (unsigned index = 0; index < 3; index++)
+        put_word(map + 4 * index, WINDOW[index]);
+    make_load(&works[0], "sent load, checksum off", false, false);
+    make_load(&works[1], "sent load, checksum on", false, true);
+    make_load(&works[2], "flash load, checksum off", true, false);
+    make_load(&works[3], "flash load, checksum on", true, true);
+    make_fills(&works[4], "16 fills of 65,536, unit 1", 0);
+    make_fills(&works[5], "16 fills of 65,536, unit 2", 1);
+    make_fills(&works[6], "16 fills of 65,536, unit 4", 2);
+    printf("%-32s %12s %12s %8s\n", "microseconds, medians", "proved", "plain", "ratio");
+    for (unsigned index = 0; index < 7; index++) {
+        double ratio = measure_both(&works[index]);
+        highest = ratio > highest ? ratio : highest;
+    }
+    printf("highest ratio %.2f\n", highest);
+    return highest <= allowed ? 0 : 1;
+}

@@ -1,0 +1,638 @@
+/* A loader of boot scripts in plain C, written from the paper alone. Nothing here is shared with the proved one. */
+#include "plain_loader.h"
+
+#include <stdbool.h>
+#include <string.h>
+
+enum refusal {
+    ACCEPTED = 0,
+    MAP_WRONG = 1,
+    MEMORY_LENGTH_WRONG = 2,
+    IMAGE_LENGTH_WRONG = 3,
+    FIRST_WORD_WRONG = 4,
+    IMAGE_TOO_SHORT = 5,
+    OPCODE_WRONG = 6,
+    NOT_GRANTED = 7,
+    TYPE_WRONG = 8,
+    NOT_ALIGNED = 9,
+    ENTRY_WRONG = 10,
+    CHECKSUM_DIFFERS = 11,
+    SEEK_WRONG = 12,
+    SESSION_ENDED = 14,
+    CALL_WRONG = 19
+};
+
+enum right { LOAD_RIGHT = 1, SET_RIGHT = 2, ENTRY_RIGHT = 4 };
+
+enum { WINDOW_LIMIT = 8, WINDOW_BYTES = 12, MEMORY_LIMIT = 65536, IMAGE_LIMIT = 65536, FED_LIMIT = 65536 };
+enum { WORD_BYTES = 4, ARGUMENT_LIMIT = 4, REPLY_LIMIT = 8, GREETING_LENGTH = 6 };
+
+static const uint32_t FIRST_WORD = 0x41504954;
+static const uint32_t POLYNOMIAL = 0x04C11DB7;
+static const uint64_t ADDRESS_SPACE = (uint64_t)1 << 32;
+static const uint8_t START_WORD = 0x58;
+static const uint8_t START_ANSWER = 0x52;
+
+/* ---- Words ---- */
+
+static uint32_t read_word(const uint8_t *bytes)
+{
+    return (uint32_t)bytes[0] | (uint32_t)bytes[1] << 8 | (uint32_t)bytes[2] << 16 | (uint32_t)bytes[3] << 24;
+}
+
+/* Writes the low `count` bytes of a value, lowest first. */
+static void write_low_bytes(uint8_t *bytes, uint32_t value, uint32_t count)
+{
+    for (uint32_t index = 0; index < count; index++)
+        bytes[index] = (uint8_t)(value >> (8 * index));
+}
+
+/* ---- Opcodes ---- */
+
+enum command {
+    LOAD,
+    REQUEST,
+    ENABLE,
+    DISABLE,
+    JUMP,
+    JUMP_AND_CLOSE = PLAIN_JUMP_AND_CLOSE,
+    BOOT_TABLE,
+    START_OVER,
+    FILL,
+    PING,
+    SEQUENTIAL_READ_ENABLE
+};
+
+enum { NOT_ALLOWED = -1 };
+
+struct command_row {
+    uint32_t opcode;
+    int argument_words[PLAIN_MODES]; /* sent, flash */
+    const char *name;
+};
+
+static const struct command_row COMMANDS[PLAIN_COMMANDS] = {
+    [LOAD] = {0x58535901, {2, 2}, "Load"},
+    [REQUEST] = {0x58535902, {0, 2}, "Request"},
+    [ENABLE] = {0x58535903, {0, 0}, "Enable"},
+    [DISABLE] = {0x58535904, {0, 0}, "Disable"},
+    [JUMP] = {0x58535905, {1, 1}, "Jump"},
+    [JUMP_AND_CLOSE] = {0x58535906, {1, 1}, "Jump & Close"},
+    [BOOT_TABLE] = {0x58535907, {4, 4}, "Boot Table"},
+    [START_OVER] = {0x58535908, {0, NOT_ALLOWED}, "Start-Over"},
+    [FILL] = {0x5853590A, {4, 4}, "Fill"},
+    [PING] = {0x5853590B, {1, NOT_ALLOWED}, "Ping"},
+    [SEQUENTIAL_READ_ENABLE] = {0x58535963, {NOT_ALLOWED, 0}, "Sequential Read Enable"},
+};
+
+uint64_t plain_accepted[PLAIN_MODES][PLAIN_COMMANDS];
+
+const char *plain_command_name(unsigned kind)
+{
+    return COMMANDS[kind].name;
+}
+
+int plain_command_allowed(unsigned mode, unsigned kind)
+{
+    return COMMANDS[kind].argument_words[mode] != NOT_ALLOWED;
+}
+
+/* Finds the command of an opcode in a mode; false where there is none. */
+static bool find_command(uint32_t opcode, unsigned mode, enum command *found)
+{
+    for (unsigned kind = 0; kind < PLAIN_COMMANDS; kind++) {
+        if (COMMANDS[kind].opcode == opcode && plain_command_allowed(mode, kind)) {
+            *found = (enum command)kind;
+            return true;
+        }
+    }
+    return false;
+}
+
+/* ---- Map ---- */
+
+struct window {
+    uint32_t first;
+    uint32_t length;
+    uint32_t rights;
+};
+
+struct map {
+    struct window windows[WINDOW_LIMIT];
+    size_t count;
+    uint64_t sum;
+};
+
+static uint64_t window_end(const struct window *window)
+{
+    return (uint64_t)window->first + window->length;
+}
+
+/* Reads and checks a map; false is refusal 1. */
+static bool read_map(struct map *map, const uint8_t *bytes, size_t length)
+{
+    uint64_t free_from = 0;
+
+    if (length % WINDOW_BYTES != 0 || length == 0 || length > WINDOW_LIMIT * WINDOW_BYTES)
+        return false;
+    map->count = length / WINDOW_BYTES;
+    map->sum = 0;
+    for (size_t index = 0; index < map->count; index++) {
+        struct window *window = &map->windows[index];
+        window->first = read_word(bytes + index * WINDOW_BYTES);
+        window->length = read_word(bytes + index * WINDOW_BYTES + 4);
+        window->rights = read_word(bytes + index * WINDOW_BYTES + 8);
+        if (window->length == 0 || window->rights < 1 || window->rights > 7)
+            return false;
+        if (window->first < free_from || window_end(window) > ADDRESS_SPACE)
+            return false;
+        free_from = window_end(window);
+        map->sum += window->length;
+    }
+    return map->sum <= MEMORY_LIMIT;
+}
+
+/* Grants a range of addresses, and finds its place in the lent memory; false where no window grants it. */
+static bool find_place(const struct map *map, enum right right, uint32_t address, uint32_t size, size_t *place)
+{
+    size_t window_place = 0;
+
+    for (size_t index = 0; index < map->count; index++) {
+        const struct window *window = &map->windows[index];
+        uint64_t end = window_end(window);
+        if ((window->rights & right) != 0 && window->first <= address && address < end &&
+            (uint64_t)address + size <= end) {
+            *place = window_place + (address - window->first);
+            return true;
+        }
+        window_place += window->length;
+    }
+    return false;
+}
+
+/* ---- What both modes share ---- */
+
+struct loader {
+    struct map map;
+    uint8_t *memory;
+    uint32_t checksum;
+    bool checksum_on;
+    bool ended;
+};
+
+/* Feeds the low bits of a value to the checksum, highest first, while it is on. */
+static void feed_checksum(struct loader *loader, uint32_t value, unsigned bits)
+{
+    uint32_t checksum = loader->checksum;
+
+    if (!loader->checksum_on)
+        return;
+    while (bits > 0) {
+        bool fell_off = checksum >> 31 != 0;
+        bits--;
+        checksum = checksum << 1 | (value >> bits & 1);
+        if (fell_off)
+            checksum ^= POLYNOMIAL;
+    }
+    loader->checksum = checksum;
+}
+
+static void enable(struct loader *loader)
+{
+    loader->checksum_on = true;
+    loader->checksum = 0;
+}
+
+static void disable(struct loader *loader)
+{
+    loader->checksum_on = false;
+}
+
+static void start_over(struct loader *loader)
+{
+    loader->checksum = 0;
+}
+
+static enum refusal fill(struct loader *loader, const uint32_t *arguments)
+{
+    uint32_t address = arguments[0], size = arguments[1], type = arguments[2], pattern = arguments[3];
+    uint32_t unit;
+    size_t place;
+
+    if (type > 2)
+        return TYPE_WRONG;
+    unit = (uint32_t)1 << type;
+    if (address % unit != 0 || size % unit != 0)
+        return NOT_ALIGNED;
+    if (!find_place(&loader->map, LOAD_RIGHT, address, size, &place))
+        return NOT_GRANTED;
+    for (uint32_t index = 0; index < size; index++)
+        loader->memory[place + index] = (uint8_t)(pattern >> (8 * (index & (unit - 1))));
+    for (unsigned index = 0; index < 4; index++)
+        feed_checksum(loader, arguments[index], 32);
+    return ACCEPTED;
+}
+
+/* Puts the low bits of the data into the bits `start` to `stop` of a word, and keeps the others. */
+static uint32_t put_field(uint32_t word, uint32_t data, uint32_t start, uint32_t stop)
+{
+    uint32_t mask = (0xFFFFFFFF >> (31 - (stop - start))) << start;
+
+    return (word & ~mask) | (data << start & mask);
+}
+
+static enum refusal boot_table(struct loader *loader, const uint32_t *arguments)
+{
+    uint32_t type = arguments[0], address = arguments[1], data = arguments[2];
+    uint32_t kind = type & 0xFF, start = type >> 8 & 0xFF, stop = type >> 16 & 0xFF;
+    bool is_field = kind == 3 || kind == 4;
+    uint32_t unit;
+    size_t place;
+
+    if (type >> 24 != 0 || kind > 4)
+        return TYPE_WRONG;
+    if (is_field && (start > stop || stop > 31))
+        return TYPE_WRONG;
+    unit = is_field ? 4 : (uint32_t)1 << kind;
+    if (address % unit != 0)
+        return NOT_ALIGNED;
+    if (!find_place(&loader->map, SET_RIGHT, address, unit, &place))
+        return NOT_GRANTED;
+    if (is_field)
+        data = put_field(read_word(loader->memory + place), data, start, stop);
+    write_low_bytes(loader->memory + place, data, unit);
+    return ACCEPTED;
+}
+
+static enum refusal jump(struct loader *loader, uint32_t address)
+{
+    size_t place;
+
+    if (address % 4 != 0 || !find_place(&loader->map, ENTRY_RIGHT, address, 0, &place))
+        return ENTRY_WRONG;
+    return ACCEPTED;
+}
+
+static enum refusal jump_and_close(struct loader *loader, uint32_t address)
+{
+    enum refusal refusal = jump(loader, address);
+
+    if (refusal == ACCEPTED)
+        loader->ended = true;
+    return refusal;
+}
+
+/* ---- Flash mode ---- */
+
+struct flash_run {
+    struct loader loader;
+    const uint8_t *image;
+    size_t length;
+    size_t offset;
+    uint8_t limit;
+    uint8_t retries;
+};
+
+static enum refusal flash_load(struct flash_run *run, const uint32_t *arguments, size_t after)
+{
+    uint32_t address = arguments[0], size = arguments[1];
+    const uint8_t *data = run->image + after;
+    uint32_t left_over = size % WORD_BYTES, whole = size - left_over;
+    size_t padded, place;
+
+    if (!find_place(&run->loader.map, LOAD_RIGHT, address, size, &place))
+        return NOT_GRANTED;
+    padded = whole + (left_over != 0 ? WORD_BYTES : 0);
+    if (run->length - after < padded)
+        return IMAGE_TOO_SHORT;
+    memcpy(run->loader.memory + place, data, size);
+    feed_checksum(&run->loader, address, 32);
+    feed_checksum(&run->loader, size, 32);
+    for (uint32_t index = 0; index < whole; index += WORD_BYTES)
+        feed_checksum(&run->loader, read_word(data + index), 32);
+    if (left_over != 0)
+        feed_checksum(&run->loader, read_word(data + whole), 8 * left_over);
+    run->offset = after + padded;
+    return ACCEPTED;
+}
+
+/* Compares the register; on a mismatch goes back by the seek, which counts from the word after it. */
+static enum refusal flash_request(struct flash_run *run, const uint32_t *arguments, size_t after)
+{
+    uint32_t expected = arguments[0], seek = arguments[1];
+    bool matches = run->loader.checksum == expected;
+    uint32_t target = (uint32_t)after + seek;
+
+    run->loader.checksum = 0;
+    if (matches) {
+        run->offset = after;
+        return ACCEPTED;
+    }
+    if (run->retries == run->limit)
+        return CHECKSUM_DIFFERS;
+    if (target % WORD_BYTES != 0 || target < WORD_BYTES || target >= run->offset)
+        return SEEK_WRONG;
+    run->retries++;
+    run->offset = target;
+    return ACCEPTED;
+}
+
+/* Does the commands that only move on past their arguments. */
+static enum refusal flash_simple(struct loader *loader, enum command command, const uint32_t *arguments)
+{
+    switch (command) {
+    case FILL:
+        return fill(loader, arguments);
+    case BOOT_TABLE:
+        return boot_table(loader, arguments);
+    case JUMP:
+        return jump(loader, arguments[0]);
+    case JUMP_AND_CLOSE:
+        return jump_and_close(loader, arguments[0]);
+    case ENABLE:
+        enable(loader);
+        return ACCEPTED;
+    case DISABLE:
+        disable(loader);
+        return ACCEPTED;
+    default: /* Sequential Read Enable has no effect */
+        return ACCEPTED;
+    }
+}
+
+/* Does the command at the offset, and moves the offset past it. */
+static enum refusal flash_command(struct flash_run *run)
+{
+    uint32_t arguments[ARGUMENT_LIMIT] = {0};
+    enum command command;
+    enum refusal refusal;
+    size_t after = run->offset + WORD_BYTES;
+    unsigned argument_count;
+
+    if (after > run->length)
+        return IMAGE_TOO_SHORT;
+    if (!find_command(read_word(run->image + run->offset), PLAIN_FLASH, &command))
+        return OPCODE_WRONG;
+    argument_count = (unsigned)COMMANDS[command].argument_words[PLAIN_FLASH];
+    if (run->length - after < argument_count * WORD_BYTES)
+        return IMAGE_TOO_SHORT;
+    for (unsigned index = 0; index < argument_count; index++, after += WORD_BYTES)
+        arguments[index] = read_word(run->image + after);
+    if (command == LOAD) {
+        refusal = flash_load(run, arguments, after);
+    } else if (command == REQUEST) {
+        refusal = flash_request(run, arguments, after);
+    } else {
+        refusal = flash_simple(&run->loader, command, arguments);
+        if (refusal == ACCEPTED)
+            run->offset = after;
+    }
+    if (refusal == ACCEPTED)
+        plain_accepted[PLAIN_FLASH][command]++;
+    return refusal;
+}
+
+static enum refusal flash_opening(struct flash_run *run, const uint8_t *map, size_t map_length)
+{
+    if (!read_map(&run->loader.map, map, map_length))
+        return MAP_WRONG;
+    if (run->length % WORD_BYTES != 0 || run->length < WORD_BYTES || run->length > IMAGE_LIMIT)
+        return IMAGE_LENGTH_WRONG;
+    if (read_word(run->image) != FIRST_WORD)
+        return FIRST_WORD_WRONG;
+    return ACCEPTED;
+}
+
+uint64_t plain_flash_run(const uint8_t *map, size_t map_length, uint8_t *memory, size_t memory_length,
+                         const uint8_t *image, size_t image_length, uint8_t limit)
+{
+    struct flash_run run = {
+        .loader = {.memory = memory}, .image = image, .length = image_length, .offset = WORD_BYTES, .limit = limit};
+    enum refusal refusal = flash_opening(&run, map, map_length);
+    size_t last_offset = 0;
+
+    if (refusal == ACCEPTED && memory_length != run.loader.map.sum)
+        refusal = MEMORY_LENGTH_WRONG;
+    while (refusal == ACCEPTED && !run.loader.ended) {
+        last_offset = run.offset;
+        refusal = flash_command(&run);
+    }
+    return (uint64_t)refusal << 56 | (uint64_t)run.retries << 48 | (uint64_t)(last_offset / 4) << 32 |
+           run.loader.checksum;
+}
+
+/* ---- Sent mode ---- */
+
+enum awaiting { AWAITING_OPCODE, AWAITING_ARGUMENT, AWAITING_DATA, AWAITING_ECHO };
+
+struct sent_session {
+    struct loader loader;
+    bool started;      /* the first start word was answered */
+    bool acknowledged; /* an opcode was acknowledged */
+    uint32_t gathered; /* the bytes of the unfinished word */
+    unsigned gathered_count;
+    enum awaiting awaiting;
+    enum command command;
+    uint32_t arguments[ARGUMENT_LIMIT];
+    unsigned argument_count;
+    size_t load_place;
+    uint32_t load_left;
+    uint32_t echoes_left;
+};
+
+struct reply {
+    uint8_t bytes[REPLY_LIMIT];
+    unsigned count;
+};
+
+static void reply_word(struct reply *reply, uint32_t word)
+{
+    write_low_bytes(reply->bytes + reply->count, word, WORD_BYTES);
+    reply->count += WORD_BYTES;
+}
+
+/* Judges a load at its size word; its data follows. */
+static enum refusal sent_load(struct sent_session *session)
+{
+    uint32_t address = session->arguments[0], size = session->arguments[1];
+
+    if (!find_place(&session->loader.map, LOAD_RIGHT, address, size, &session->load_place))
+        return NOT_GRANTED;
+    feed_checksum(&session->loader, address, 32);
+    feed_checksum(&session->loader, size, 32);
+    session->load_left = size;
+    if (size != 0)
+        session->awaiting = AWAITING_DATA;
+    return ACCEPTED;
+}
+
+/* Writes and feeds one word of load data, or as many of its bytes as are left. */
+static void sent_load_data(struct sent_session *session, uint32_t word)
+{
+    uint32_t count = session->load_left < WORD_BYTES ? session->load_left : WORD_BYTES;
+
+    write_low_bytes(session->loader.memory + session->load_place, word, count);
+    feed_checksum(&session->loader, word, 8 * count);
+    session->load_place += count;
+    session->load_left -= count;
+    if (session->load_left == 0)
+        session->awaiting = AWAITING_OPCODE;
+}
+
+static void sent_request(struct sent_session *session, struct reply *reply)
+{
+    reply_word(reply, session->loader.checksum);
+    session->loader.checksum = 0;
+}
+
+static void sent_ping(struct sent_session *session, struct reply *reply)
+{
+    reply_word(reply, session->arguments[0]);
+    session->echoes_left = session->arguments[0];
+    if (session->echoes_left != 0)
+        session->awaiting = AWAITING_ECHO;
+}
+
+static void sent_echo(struct sent_session *session, uint32_t word, struct reply *reply)
+{
+    reply_word(reply, word);
+    session->echoes_left--;
+    if (session->echoes_left == 0)
+        session->awaiting = AWAITING_OPCODE;
+}
+
+/* Does a command whose last argument word has come. */
+static enum refusal sent_perform(struct sent_session *session, struct reply *reply)
+{
+    switch (session->command) {
+    case LOAD:
+        return sent_load(session);
+    case FILL:
+        return fill(&session->loader, session->arguments);
+    case BOOT_TABLE:
+        return boot_table(&session->loader, session->arguments);
+    case JUMP:
+        return jump(&session->loader, session->arguments[0]);
+    case JUMP_AND_CLOSE:
+        return jump_and_close(&session->loader, session->arguments[0]);
+    case ENABLE:
+        enable(&session->loader);
+        return ACCEPTED;
+    case DISABLE:
+        disable(&session->loader);
+        return ACCEPTED;
+    case START_OVER:
+        start_over(&session->loader);
+        return ACCEPTED;
+    case REQUEST:
+        sent_request(session, reply);
+        return ACCEPTED;
+    default: /* Sequential Read Enable never comes here */
+        sent_ping(session, reply);
+        return ACCEPTED;
+    }
+}
+
+/* Does the command if all of its argument words are here, else waits for the next one. */
+static enum refusal sent_perform_when_complete(struct sent_session *session, struct reply *reply)
+{
+    enum refusal refusal;
+
+    if (session->argument_count < (unsigned)COMMANDS[session->command].argument_words[PLAIN_SENT]) {
+        session->awaiting = AWAITING_ARGUMENT;
+        return ACCEPTED;
+    }
+    session->awaiting = AWAITING_OPCODE;
+    refusal = sent_perform(session, reply);
+    if (refusal == ACCEPTED)
+        plain_accepted[PLAIN_SENT][session->command]++;
+    return refusal;
+}
+
+static enum refusal sent_opcode(struct sent_session *session, uint32_t opcode, struct reply *reply)
+{
+    if (!find_command(opcode, PLAIN_SENT, &session->command))
+        return OPCODE_WRONG;
+    session->acknowledged = true;
+    session->argument_count = 0;
+    reply_word(reply, (opcode & 0x00FFFFFF) | (uint32_t)START_ANSWER << 24);
+    return sent_perform_when_complete(session, reply);
+}
+
+static enum refusal sent_word(struct sent_session *session, uint32_t word, struct reply *reply)
+{
+    switch (session->awaiting) {
+    case AWAITING_OPCODE:
+        return sent_opcode(session, word, reply);
+    case AWAITING_ARGUMENT:
+        session->arguments[session->argument_count++] = word;
+        return sent_perform_when_complete(session, reply);
+    case AWAITING_DATA:
+        sent_load_data(session, word);
+        return ACCEPTED;
+    default:
+        sent_echo(session, word, reply);
+        return ACCEPTED;
+    }
+}
+
+/* Takes one byte from the line. */
+static enum refusal sent_byte(struct sent_session *session, uint8_t byte, struct reply *reply)
+{
+    enum refusal refusal;
+
+    reply->count = 0;
+    if (session->loader.ended)
+        return SESSION_ENDED;
+    if (!session->acknowledged && session->gathered_count == 0 && byte == START_WORD) {
+        session->started = true;
+        reply->bytes[reply->count++] = START_ANSWER;
+        return ACCEPTED;
+    }
+    if (!session->started)
+        return ACCEPTED;
+    session->gathered |= (uint32_t)byte << (8 * session->gathered_count++);
+    if (session->gathered_count < WORD_BYTES)
+        return ACCEPTED;
+    refusal = sent_word(session, session->gathered, reply);
+    session->gathered = 0;
+    session->gathered_count = 0;
+    if (refusal != ACCEPTED) {
+        session->loader.ended = true;
+        reply->count = 0;
+    }
+    return refusal;
+}
+
+static enum refusal sent_opening(struct sent_session *session, const uint8_t *map, size_t map_length,
+                                 size_t memory_length, size_t fed_length, size_t room_length)
+{
+    if (!read_map(&session->loader.map, map, map_length))
+        return MAP_WRONG;
+    if (memory_length != session->loader.map.sum)
+        return MEMORY_LENGTH_WRONG;
+    if (fed_length > FED_LIMIT || room_length < GREETING_LENGTH + 2 * fed_length)
+        return CALL_WRONG;
+    return ACCEPTED;
+}
+
+uint64_t plain_sent_session(const uint8_t *map, size_t map_length, uint8_t *memory, size_t memory_length,
+                            const uint8_t *fed, size_t fed_length, uint8_t *room, size_t room_length)
+{
+    struct sent_session session = {.loader = {.memory = memory}};
+    enum refusal first_refusal = sent_opening(&session, map, map_length, memory_length, fed_length, room_length);
+    size_t count = GREETING_LENGTH;
+
+    if (first_refusal != ACCEPTED)
+        return (uint64_t)first_refusal << 32;
+    memcpy(room, "BOOTME", GREETING_LENGTH);
+    for (size_t index = 0; index < fed_length; index++) {
+        struct reply reply;
+        enum refusal refusal = sent_byte(&session, fed[index], &reply);
+        if (first_refusal == ACCEPTED)
+            first_refusal = refusal;
+        for (unsigned place = 0; place < reply.count; place++)
+            room[count++] = reply.bytes[place];
+    }
+    return (uint64_t)first_refusal << 32 | count;
+}

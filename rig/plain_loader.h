@@ -1,0 +1,24 @@
+/* A loader of boot scripts in plain C, written from the paper alone, to be run beside the proved one. */
+#ifndef PLAIN_LOADER_H
+#define PLAIN_LOADER_H
+
+#include <stddef.h>
+#include <stdint.h>
+
+enum { PLAIN_SENT, PLAIN_FLASH, PLAIN_MODES };
+enum { PLAIN_JUMP_AND_CLOSE = 5, PLAIN_COMMANDS = 11 };
+
+/* How many commands of each kind were accepted so far in each mode, and what the kinds are called. */
+extern uint64_t plain_accepted[PLAIN_MODES][PLAIN_COMMANDS];
+const char *plain_command_name(unsigned kind);
+
+/* Whether a mode allows a kind at all. */
+int plain_command_allowed(unsigned mode, unsigned kind);
+
+/* The same calls, with the same answers, as the two entries in ais.h. */
+uint64_t plain_sent_session(const uint8_t *map, size_t map_length, uint8_t *memory, size_t memory_length,
+                            const uint8_t *fed, size_t fed_length, uint8_t *room, size_t room_length);
+uint64_t plain_flash_run(const uint8_t *map, size_t map_length, uint8_t *memory, size_t memory_length,
+                         const uint8_t *image, size_t image_length, uint8_t limit);
+
+#endif

@@ -1,0 +1,278 @@
+#include "writer.h"
+
+#include <string.h>
+
+/* ---- Random numbers ---- */
+
+static uint64_t next_state(struct random_source *random)
+{
+    uint64_t mixed = random->state += 0x9E3779B97F4A7C15;
+
+    mixed = (mixed ^ mixed >> 30) * 0xBF58476D1CE4E5B9;
+    mixed = (mixed ^ mixed >> 27) * 0x94D049BB133111EB;
+    return mixed ^ mixed >> 31;
+}
+
+struct random_source random_from(uint64_t seed, uint64_t number)
+{
+    struct random_source random = {seed};
+
+    random.state = next_state(&random) ^ number;
+    random.state = next_state(&random);
+    return random;
+}
+
+uint32_t random_word(struct random_source *random)
+{
+    return (uint32_t)(next_state(random) >> 32);
+}
+
+uint32_t random_below(struct random_source *random, uint32_t limit)
+{
+    return (uint32_t)((uint64_t)random_word(random) * limit >> 32);
+}
+
+bool chance(struct random_source *random, uint32_t percent)
+{
+    return random_below(random, 100) < percent;
+}
+
+void random_bytes(struct random_source *random, uint8_t *bytes, size_t length)
+{
+    while (length > 0) {
+        uint64_t eight = next_state(random);
+        size_t part = length < sizeof eight ? length : sizeof eight;
+        memcpy(bytes, &eight, part);
+        bytes += part;
+        length -= part;
+    }
+}
+
+uint32_t pick(struct random_source *random, const uint32_t *words, size_t count)
+{
+    return words[random_below(random, (uint32_t)count)];
+}
+
+/* ---- Maps ---- */
+
+uint64_t map_sum(const struct map *map)
+{
+    uint64_t sum = 0;
+
+    for (unsigned index = 0; index < map->count; index++)
+        sum += map->windows[index].length;
+    return sum;
+}
+
+static void encode_word(uint8_t *bytes, uint32_t word)
+{
+    for (unsigned index = 0; index < 4; index++)
+        bytes[index] = (uint8_t)(word >> (8 * index));
+}
+
+void encode_map(struct map *map)
+{
+    map->length = map->count * WINDOW_BYTES;
+    for (unsigned index = 0; index < map->count; index++) {
+        encode_word(map->bytes + index * WINDOW_BYTES, map->windows[index].first);
+        encode_word(map->bytes + index * WINDOW_BYTES + 4, map->windows[index].length);
+        encode_word(map->bytes + index * WINDOW_BYTES + 8, map->windows[index].rights);
+    }
+}
+
+/* ---- The checksum of what was written ---- */
+
+/* The remainder after `bits` further bits, by long division of the 64-bit dividend. */
+static uint32_t divide(uint32_t remainder, uint32_t value, unsigned bits)
+{
+    const uint64_t divisor = 0x104C11DB7;
+    uint64_t kept = value & (0xFFFFFFFF >> (32 - bits));
+    uint64_t dividend = (uint64_t)remainder << bits | kept;
+
+    for (unsigned bit = 32 + bits; bit-- > 32;)
+        if (dividend >> bit & 1)
+            dividend ^= divisor << (bit - 32);
+    return (uint32_t)dividend;
+}
+
+static void cover(struct writer *writer, uint32_t value, unsigned bits)
+{
+    if (!writer->checksum_on)
+        return;
+    writer->checksum = divide(writer->checksum, value, bits);
+    for (unsigned index = 0; index < writer->mark_count; index++)
+        writer->marks[index].checksum = divide(writer->marks[index].checksum, value, bits);
+}
+
+static void clear_checksum(struct writer *writer)
+{
+    writer->checksum = 0;
+    for (unsigned index = 0; index < writer->mark_count; index++)
+        writer->marks[index].checksum = 0;
+}
+
+/* ---- Scripts ---- */
+
+void begin_script(struct writer *writer, const struct map *map, bool is_flash)
+{
+    writer->map = map;
+    writer->is_flash = is_flash;
+    writer->length = 0;
+    writer->first_word = 0;
+    writer->checksum_on = false;
+    writer->checksum = 0;
+    writer->mark_count = 0;
+}
+
+void write_byte(struct writer *writer, uint8_t byte)
+{
+    if (writer->length < SCRIPT_LIMIT)
+        writer->bytes[writer->length++] = byte;
+}
+
+void write_word(struct writer *writer, uint32_t word)
+{
+    for (unsigned index = 0; index < 4; index++)
+        write_byte(writer, (uint8_t)(word >> (8 * index)));
+}
+
+void write_start_words(struct writer *writer, unsigned count)
+{
+    while (count-- > 0)
+        write_byte(writer, START_WORD);
+    writer->first_word = writer->length;
+}
+
+void write_mark(struct writer *writer)
+{
+    if (writer->mark_count < MARK_LIMIT) {
+        writer->marks[writer->mark_count].offset = writer->length;
+        writer->marks[writer->mark_count].checksum = 0;
+        writer->mark_count++;
+    }
+}
+
+void write_load_data(struct writer *writer, uint32_t size)
+{
+    while (size > 0) {
+        uint32_t word = chance(&writer->random, 5) ? tricky_word(&writer->random) : random_word(&writer->random);
+        uint32_t count = size < 4 ? size : 4;
+        write_word(writer, word);
+        cover(writer, word, 8 * count);
+        size -= count;
+    }
+}
+
+void write_load(struct writer *writer, uint32_t address, uint32_t size)
+{
+    write_word(writer, OPCODE_LOAD);
+    write_word(writer, address);
+    write_word(writer, size);
+    cover(writer, address, 32);
+    cover(writer, size, 32);
+    write_load_data(writer, size);
+}
+
+void write_fill(struct writer *writer, uint32_t address, uint32_t size, uint32_t type, uint32_t pattern)
+{
+    const uint32_t arguments[] = {address, size, type, pattern};
+
+    write_word(writer, OPCODE_FILL);
+    for (unsigned index = 0; index < 4; index++) {
+        write_word(writer, arguments[index]);
+        cover(writer, arguments[index], 32);
+    }
+}
+
+void write_setting(struct writer *writer, uint32_t type, uint32_t address, uint32_t data, uint32_t delay)
+{
+    write_word(writer, OPCODE_BOOT_TABLE);
+    write_word(writer, type);
+    write_word(writer, address);
+    write_word(writer, data);
+    write_word(writer, delay);
+}
+
+void write_switch(struct writer *writer, uint32_t opcode)
+{
+    write_word(writer, opcode);
+    if (opcode == OPCODE_ENABLE)
+        writer->checksum_on = true;
+    if (opcode == OPCODE_DISABLE)
+        writer->checksum_on = false;
+    if (opcode == OPCODE_ENABLE || opcode == OPCODE_START_OVER)
+        clear_checksum(writer);
+}
+
+void write_jump(struct writer *writer, uint32_t opcode, uint32_t address)
+{
+    write_word(writer, opcode);
+    write_word(writer, address);
+}
+
+void write_sent_request(struct writer *writer)
+{
+    write_word(writer, OPCODE_REQUEST);
+    clear_checksum(writer);
+}
+
+void write_flash_request(struct writer *writer, uint32_t expected, uint32_t seek)
+{
+    write_word(writer, OPCODE_REQUEST);
+    write_word(writer, expected);
+    write_word(writer, seek);
+    clear_checksum(writer);
+}
+
+void write_ping(struct writer *writer, uint32_t count)
+{
+    write_word(writer, OPCODE_PING);
+    write_word(writer, count);
+    while (count-- > 0)
+        write_word(writer, tricky_word(&writer->random));
+}
+
+/* Looks for a range in one window. */
+static bool choose_range_in(struct writer *writer, const struct window *window, uint32_t unit, uint32_t longest,
+                            uint32_t *address, uint32_t *size)
+{
+    uint32_t skipped = (unit - window->first % unit) % unit;
+    uint32_t units, start, room;
+
+    if (window->length < skipped + unit)
+        return false;
+    units = (window->length - skipped) / unit;
+    start = chance(&writer->random, 25) ? 0 : random_below(&writer->random, units);
+    room = units - start < longest / unit ? units - start : longest / unit;
+    *address = window->first + skipped + start * unit;
+    *size = unit * (chance(&writer->random, 20) ? room : random_below(&writer->random, room + 1));
+    return true;
+}
+
+bool choose_range(struct writer *writer, uint32_t right, uint32_t unit, uint32_t longest, uint32_t *address,
+                  uint32_t *size)
+{
+    unsigned begin;
+
+    if (writer->map->count == 0)
+        return false;
+    begin = random_below(&writer->random, writer->map->count);
+    for (unsigned tried = 0; tried < writer->map->count; tried++) {
+        const struct window *window = &writer->map->windows[(begin + tried) % writer->map->count];
+        if ((window->rights & right) != 0 && choose_range_in(writer, window, unit, longest, address, size))
+            return true;
+    }
+    return false;
+}
+
+uint32_t tricky_word(struct random_source *random)
+{
+    static const uint32_t words[] = {
+        OPCODE_LOAD, OPCODE_REQUEST, OPCODE_ENABLE, OPCODE_DISABLE, OPCODE_JUMP, OPCODE_JUMP_AND_CLOSE,
+        OPCODE_BOOT_TABLE, OPCODE_START_OVER, OPCODE_FILL, OPCODE_PING, OPCODE_SEQUENTIAL_READ_ENABLE,
+        0x52535901, 0x52535903, 0x52535908, 0x5253590B, 0x58585858, 0x52525252, 0x00000058, 0x12345658, 0x58000000,
+        0x00000000, 0x00000001, 0xFFFFFFFF, FIRST_WORD,
+    };
+
+    return chance(random, 70) ? PICK(random, words) : random_word(random);
+}

@@ -1,0 +1,110 @@
+/* Writes maps and boot scripts, command by command, with random numbers that a seed decides. */
+#ifndef WRITER_H
+#define WRITER_H
+
+#include <stdbool.h>
+#include <stddef.h>
+#include <stdint.h>
+
+/* ---- Random numbers ---- */
+
+struct random_source {
+    uint64_t state;
+};
+
+struct random_source random_from(uint64_t seed, uint64_t number);
+uint32_t random_word(struct random_source *random);
+uint32_t random_below(struct random_source *random, uint32_t limit); /* 0 to limit - 1 */
+bool chance(struct random_source *random, uint32_t percent);
+void random_bytes(struct random_source *random, uint8_t *bytes, size_t length);
+uint32_t pick(struct random_source *random, const uint32_t *words, size_t count);
+
+#define PICK(random, words) pick(random, words, sizeof(words) / sizeof((words)[0]))
+
+/* ---- Maps ---- */
+
+enum { LOAD_RIGHT = 1, SET_RIGHT = 2, ENTRY_RIGHT = 4, ALL_RIGHTS = 7 };
+enum { WINDOW_BYTES = 12, WINDOWS_WRITTEN = 9, MEMORY_LIMIT = 65536 };
+
+struct window {
+    uint32_t first;
+    uint32_t length;
+    uint32_t rights;
+};
+
+/* The windows, and the bytes that stand for them. A bad map may have nine windows, or part of one. */
+struct map {
+    struct window windows[WINDOWS_WRITTEN];
+    unsigned count;
+    uint8_t bytes[WINDOWS_WRITTEN * WINDOW_BYTES + WINDOW_BYTES];
+    size_t length;
+};
+
+uint64_t map_sum(const struct map *map);
+void encode_map(struct map *map);
+
+/* ---- Scripts ---- */
+
+enum {
+    OPCODE_LOAD = 0x58535901,
+    OPCODE_REQUEST = 0x58535902,
+    OPCODE_ENABLE = 0x58535903,
+    OPCODE_DISABLE = 0x58535904,
+    OPCODE_JUMP = 0x58535905,
+    OPCODE_JUMP_AND_CLOSE = 0x58535906,
+    OPCODE_BOOT_TABLE = 0x58535907,
+    OPCODE_START_OVER = 0x58535908,
+    OPCODE_FILL = 0x5853590A,
+    OPCODE_PING = 0x5853590B,
+    OPCODE_SEQUENTIAL_READ_ENABLE = 0x58535963,
+    FIRST_WORD = 0x41504954,
+    START_WORD = 0x58
+};
+
+enum { SCRIPT_LIMIT = 70000, MARK_LIMIT = 32 };
+
+/* A place where a command begins, and what the register would hold if it had been 0 there. */
+struct mark {
+    size_t offset;
+    uint32_t checksum;
+};
+
+/* A script in the making. The checksum is what a loader has that accepts all of it. */
+struct writer {
+    struct random_source random;
+    const struct map *map;
+    bool is_flash;
+    uint8_t bytes[SCRIPT_LIMIT];
+    size_t length;
+    size_t first_word; /* where the words begin, after the start word */
+    bool checksum_on;
+    uint32_t checksum;
+    struct mark marks[MARK_LIMIT];
+    unsigned mark_count;
+};
+
+void begin_script(struct writer *writer, const struct map *map, bool is_flash);
+void write_byte(struct writer *writer, uint8_t byte);
+void write_word(struct writer *writer, uint32_t word);
+void write_start_words(struct writer *writer, unsigned count);
+void write_mark(struct writer *writer);
+
+/* Whole commands. Load data, pad bytes and the words of a ping are random. */
+void write_load(struct writer *writer, uint32_t address, uint32_t size);
+void write_load_data(struct writer *writer, uint32_t size);
+void write_fill(struct writer *writer, uint32_t address, uint32_t size, uint32_t type, uint32_t pattern);
+void write_setting(struct writer *writer, uint32_t type, uint32_t address, uint32_t data, uint32_t delay);
+void write_switch(struct writer *writer, uint32_t opcode); /* Enable, Disable, Start-Over, Sequential Read Enable */
+void write_jump(struct writer *writer, uint32_t opcode, uint32_t address);
+void write_sent_request(struct writer *writer);
+void write_flash_request(struct writer *writer, uint32_t expected, uint32_t seek);
+void write_ping(struct writer *writer, uint32_t count);
+
+/* Chooses a range of whole units that one window with the right grants; false where there is none. */
+bool choose_range(struct writer *writer, uint32_t right, uint32_t unit, uint32_t longest, uint32_t *address,
+                  uint32_t *size);
+
+/* A word that a loader might mistake for something else. */
+uint32_t tricky_word(struct random_source *random);
+
+#endif
