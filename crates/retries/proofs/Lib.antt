@@ -1,0 +1,9 @@
+pub mod Accepted
+pub mod Beginnings
+pub mod Feeding
+pub mod Instance
+pub mod Line
+pub mod Memory
+pub mod Retries
+pub mod Several
+pub mod Taking
