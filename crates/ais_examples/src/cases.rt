@@ -1,8 +1,8 @@
 // The images and cases in the order of the stored output.
-use crate::images;
-use crate::runs;
-use crate::runs::Flip;
-use crate::runs::Setting;
+use transcripts::images;
+use transcripts::runs;
+use transcripts::runs::Flip;
+use transcripts::runs::Setting;
 
 // As 000's images are run.
 fn at_table(limit: u8, one: Flip, two: Flip) -> Setting {

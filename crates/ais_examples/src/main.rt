@@ -1,8 +1,6 @@
-// Flash mode over the images of source 000 and the flash examples of 01; the stored output is what those two say.
+// The images of source 000 and the examples of 01, in flash and in sent mode; the stored output is what those two say.
 mod cases;
-mod images;
-mod runs;
-mod text;
+mod sessions;
 
 fn main() {
     cases::tables();
@@ -11,4 +9,7 @@ fn main() {
     cases::totals();
     cases::both_sections();
     cases::covered_load();
+    sessions::load();
+    sessions::ping();
+    sessions::table();
 }

@@ -1,5 +1,5 @@
 // An image run to the session's end, and what is shown of it.
-ghost use Prim.Native.Nat.{_≤_};
+use crate::ends;
 use crate::text;
 use flash::Called;
 use flash::Session;
@@ -96,19 +96,24 @@ fn play(setting: Setting, begun: Called, memory: &mut [u8], image: &mut [u8]) ->
     last
 }
 
-// The opening's answer as a call's.
-fn opening(setting: Setting, image: &[u8]) -> Called {
+// A map of one window that grants everything.
+pub fn one_window(first: u32) -> [Window; 8] {
     let none = Window {
         first: 0,
         length: 0,
         rights: 0,
     };
     let window = Window {
-        first: setting.first,
+        first,
         length: 4096,
         rights: 7,
     };
-    let windows = [window, none, none, none, none, none, none, none];
+    [window, none, none, none, none, none, none, none]
+}
+
+// The opening's answer as a call's.
+fn opening(setting: Setting, image: &[u8]) -> Called {
+    let windows = one_window(setting.first);
     let opened = Session::open(1, windows, image, setting.limit);
     let refusal = opened.refusal;
     let session = opened.session;
@@ -145,52 +150,16 @@ fn show_flips(setting: Setting) {
     }
 }
 
-fn show_outcome(kind: u8) {
-    if kind == 3 {
-        text::write(b"outcome=entered\n");
-    } else {
-        text::write(b"outcome=refused\n");
-    }
-}
-
 // The six lines of 01's check program.
 fn show_end(last: Called) {
     let refusal = last.refusal;
     let event = last.event;
-    show_outcome(event.kind());
+    ends::show_outcome(event.kind());
     text::number_line(b"code=", refusal.number() as u64);
     text::number_line(b"at=", last.at as u64);
     text::word_line(b"entry=", event.value());
     text::word_line(b"crc=", last.session.register);
     text::number_line(b"retries=", last.session.retries as u64);
-}
-
-// 0 for equal bytes, else 1.
-fn differs(a: u8, b: u8) -> u64
-    ensures { λ r. ⌜ r ≤ 1 ⌝ }
-{
-    if a == b { 0 } else { 1 }
-}
-
-// How many bytes are not the background.
-fn changed(memory: &[u8], background: u8) -> u64 {
-    let mut n: u64 = 0;
-    let mut i: usize = 0;
-    while i < memory.len() {
-        n += differs(memory[i], background);
-        i += 1;
-    }
-    n
-}
-
-// The rows that are shown, and how many bytes changed past them.
-fn show_memory(setting: Setting, memory: &[u8]) {
-    let shown = setting.shown;
-    if shown <= memory.len() {
-        text::rows(setting.first, &memory[0..shown]);
-        text::number_line(b"other=", changed(&memory[shown..], setting.background));
-        text::write(b"\n");
-    }
 }
 
 // Opens and calls, and shows requests, end and memory.
@@ -200,7 +169,7 @@ fn run_in(setting: Setting, memory: &mut [u8], image: &mut [u8]) {
     misread_both(image, setting, 0);
     let last = play(setting, begun, memory, image);
     show_end(last);
-    show_memory(setting, memory);
+    ends::show_memory(setting.first, setting.background, setting.shown, memory);
 }
 
 // One block of the transcript.

@@ -3,8 +3,8 @@ use mathlib.Core.Path.{_≡_}
 use Prim.Native.Nat.{_≤_, _-_}
 use lib.ListN.{length}
 use borrow.Author.Needs.{needs}
-use Rattle.ais_examples.proofs.images.put_words.Statement.{statement}
-use Rattle.ais_examples.proofs.images.put_words.Tie as tie
+use Rattle.transcripts.proofs.images.put_words.Statement.{statement}
+use Rattle.transcripts.proofs.images.put_words.Tie as tie
 
 abbrev Inv-loop : tie.InvT-loop
 Inv-loop image₀ listed i₀ image i = (i ≤ length listed) × (length image ≡ length image₀)

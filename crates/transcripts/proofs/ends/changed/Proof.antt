@@ -2,8 +2,8 @@
 use Prim.Native.Nat.{_≤_, _-_}
 use lib.ListN.{length}
 use borrow.Author.Needs.{needs}
-use Rattle.ais_examples.proofs.runs.changed.Statement.{statement}
-use Rattle.ais_examples.proofs.runs.changed.Tie as tie
+use Rattle.transcripts.proofs.ends.changed.Statement.{statement}
+use Rattle.transcripts.proofs.ends.changed.Tie as tie
 
 abbrev Inv-loop : tie.InvT-loop
 Inv-loop memory background n₀ i₀ n i = (i ≤ length memory) × (n ≤ i)

@@ -2,8 +2,8 @@
 use Prim.Native.Nat.{_≤_, _-_, _/_}
 use lib.ListN.{length}
 use borrow.Author.Needs.{needs}
-use Rattle.ais_examples.proofs.text.rows.Statement.{statement}
-use Rattle.ais_examples.proofs.text.rows.Tie as tie
+use Rattle.transcripts.proofs.text.rows.Statement.{statement}
+use Rattle.transcripts.proofs.text.rows.Tie as tie
 
 abbrev Inv-loop : tie.InvT-loop
 Inv-loop first memory address₀ i₀ t7 t8 address i = i ≤ length memory / 16

@@ -2,8 +2,8 @@
 use Prim.Native.Nat.{_≤_, _-_}
 use lib.ListN.{length}
 use borrow.Author.Needs.{needs}
-use Rattle.ais_examples.proofs.text.bytes.Statement.{statement}
-use Rattle.ais_examples.proofs.text.bytes.Tie as tie
+use Rattle.transcripts.proofs.text.bytes.Statement.{statement}
+use Rattle.transcripts.proofs.text.bytes.Tie as tie
 
 abbrev Inv-loop : tie.InvT-loop
 Inv-loop row i₀ t3 i = i ≤ length row

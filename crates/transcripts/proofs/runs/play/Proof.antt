@@ -2,8 +2,8 @@
 use mathlib.Core.Path.{_≡_}
 use lib.ListN.{length}
 use borrow.Author.Needs.{needs}
-use Rattle.ais_examples.proofs.runs.play.Statement.{statement}
-use Rattle.ais_examples.proofs.runs.play.Tie as tie
+use Rattle.transcripts.proofs.runs.play.Statement.{statement}
+use Rattle.transcripts.proofs.runs.play.Tie as tie
 
 abbrev Inv-loop : tie.InvT-loop
 Inv-loop setting memory₀ image₀ last₀ turns₀ memory image last turns = (length memory ≡ length memory₀) × (length image ≡ length image₀)

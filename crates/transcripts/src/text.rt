@@ -56,6 +56,14 @@ fn bytes(row: &[u8]) {
     }
 }
 
+// Bytes with a blank between them.
+pub fn listed(row: &[u8]) {
+    if row.len() > 0 {
+        byte(row[0]);
+        bytes(&row[1..]);
+    }
+}
+
 // Rows of 16 bytes, each after the address of its first.
 pub fn rows(first: u32, memory: &[u8]) {
     let mut address = first;

@@ -1,0 +1,140 @@
+// Whole sent sessions: each word, what was replied to it, and the end.
+use sent::Answer;
+use sent::Reply;
+use sent::Session;
+use transcripts::ends;
+use transcripts::images;
+use transcripts::runs;
+use transcripts::text;
+
+// Ping, two words to echo, the first of them like an opcode; then Jump & Close.
+const PING: [u32; 6] = [
+    0x5853_590B,
+    0x0000_0002,
+    0x5853_5906,
+    0x0000_0058,
+    0x5853_5906,
+    0x8000_0000,
+];
+
+// A reply's first bytes; nothing where there are none.
+fn show_bytes(bytes: &[u8], count: usize) {
+    if count > 0 && count <= bytes.len() {
+        text::write(b" reply=");
+        text::listed(&bytes[0..count]);
+    }
+}
+
+fn show_reply(reply: Reply) {
+    let bytes = reply.bytes;
+    show_bytes(&bytes, reply.count as usize);
+}
+
+// One byte, and its reply.
+fn send_byte(session: Session, memory: &mut [u8], byte: u8) -> Answer {
+    let answer = session.step(memory, byte);
+    let reply = answer.reply;
+    show_reply(reply);
+    answer
+}
+
+// One word, lowest byte first.
+fn send_word(session: Session, memory: &mut [u8], word: u32) -> Answer {
+    let bytes = [
+        words::byte_of(word, 0),
+        words::byte_of(word, 1),
+        words::byte_of(word, 2),
+        words::byte_of(word, 3),
+    ];
+    text::write(b"sent=");
+    text::listed(&bytes);
+    let first = send_byte(session, memory, bytes[0]);
+    let second = send_byte(first.session, memory, bytes[1]);
+    let third = send_byte(second.session, memory, bytes[2]);
+    let fourth = send_byte(third.session, memory, bytes[3]);
+    text::write(b"\n");
+    fourth
+}
+
+// Words one after the other.
+fn send_words(begun: Answer, memory: &mut [u8], listed: &[u32]) -> Answer {
+    let mut last = begun;
+    let mut i: usize = 0;
+    while i < listed.len() {
+        let session = last.session;
+        last = send_word(session, memory, listed[i]);
+        i += 1;
+    }
+    last
+}
+
+// Opens a session and sends the start word.
+fn start(name: &[u8], first: u32, memory: &mut [u8]) -> Answer {
+    text::text_line(b"session=", name);
+    let opened = Session::open(1, runs::one_window(first));
+    text::text_line(b"greeting=", &Session::GREETING);
+    text::write(b"sent=");
+    text::byte(Session::START);
+    let answer = send_byte(opened.session, memory, Session::START);
+    text::write(b"\n");
+    answer
+}
+
+// The host compares the register that a Request sent with what it expects.
+fn compare(asked: Answer, expected: u32) {
+    let reply = asked.reply;
+    let bytes = reply.bytes;
+    text::write(b"register=");
+    text::word(words::word_at(&bytes, 4));
+    text::word_line(b" expected=", expected);
+}
+
+fn show_end(last: Answer) {
+    let refusal = last.refusal;
+    let event = last.event;
+    let core = last.session.core;
+    let tally = core.tally;
+    ends::show_outcome(event.kind());
+    text::number_line(b"code=", refusal.number() as u64);
+    text::word_line(b"entry=", event.value());
+    text::word_line(b"crc=", tally.register);
+}
+
+// A session of 01's window.
+fn run(name: &[u8], listed: &[u32]) {
+    let mut memory = [0xEEu8; 4096];
+    let begun = start(name, 0x8000_0000, &mut memory);
+    let last = send_words(begun, &mut memory, listed);
+    show_end(last);
+    ends::show_memory(0x8000_0000, 0xEE, 16, &memory);
+}
+
+pub fn load() {
+    run(b"load-5", &images::LOAD[1..]);
+}
+
+pub fn ping() {
+    run(b"ping", &PING);
+}
+
+// Words up to a Request, whose register the host compares.
+fn send_section(begun: Answer, memory: &mut [u8], listed: &[u32], expected: u32) -> Answer {
+    let asked = send_words(begun, memory, listed);
+    compare(asked, expected);
+    asked
+}
+
+// Source 000's image: no magic word, no arguments to a Request, nothing after the entry address.
+fn send_table(begun: Answer, memory: &mut [u8]) -> Answer {
+    let one = send_section(begun, memory, &images::TABLE[1..22], images::TABLE[22]);
+    let two = send_section(one, memory, &images::TABLE[24..31], images::TABLE[31]);
+    send_words(two, memory, &images::TABLE[33..35])
+}
+
+pub fn table() {
+    let mut memory = [0xEEu8; 4096];
+    let begun = start(b"table-19", 0x1080_0000, &mut memory);
+    let last = send_table(begun, &mut memory);
+    show_end(last);
+    ends::show_memory(0x1080_0000, 0xEE, 80, &memory);
+}

@@ -1,0 +1,708 @@
+/* Shows through the C call that an abandoned attempt leaves no trace once what it wrote is written again.
+
+   retries COUNT SEED [FIRST] runs COUNT cases of the seed, from case FIRST on. A case is a map, a memory and
+   the bytes of a prefix, an attempt, the commands that follow it and a continuation. They are fed with the
+   attempt and without it, and memory, refusal and all replies from the attempt's close on have to agree.
+   Then one bit that the attempt wrote is left out of the following commands, and memory has to differ in the
+   bits left out, wherever the attempt changed them, and in no others. It ends with status 1 at the first
+   failure, or (unless FIRST is given) when too little was met. */
+#include "ais.h"
+#include "cases.h"
+
+#include <inttypes.h>
+#include <stdio.h>
+#include <stdlib.h>
+#include <string.h>
+#include <time.h>
+
+enum { FED_LIMIT = 65536, GREETING_LENGTH = 6, COMMAND_LIMIT = 512, ATTEMPT_LIMIT = 6, LOAD_LIMIT = 40 };
+enum kind { LOAD, FILL, SETTING };
+enum setting { BYTE_SETTING, HALF_SETTING, WORD_SETTING, FIELD_SETTING, OTHER_FIELD_SETTING };
+enum beginning { AFTER_START_WORD, AFTER_ENABLE, AFTER_REQUEST, AFTER_START_OVER, BEGINNINGS };
+
+/* A command that writes memory; its data is drawn when it is written down. */
+struct command {
+    enum kind kind;
+    uint32_t address;
+    uint32_t size; /* of a setting: its unit */
+    uint32_t type; /* not for loads */
+};
+
+struct commands {
+    struct command list[COMMAND_LIMIT];
+    unsigned count;
+};
+
+struct retry_case {
+    uint64_t seed;
+    uint64_t number;
+    struct map map;
+    struct writer prefix;
+    struct writer attempt; /* with its close */
+    struct writer following;
+    struct writer continuation;
+    enum beginning beginning;
+    bool is_checked; /* the checksum is on when the attempt begins */
+    bool has_request;
+    struct commands attempted;
+    struct commands repeated;
+    size_t memory_length;
+    uint8_t memory[MEMORY_LIMIT];
+    uint8_t attempt_bits[MEMORY_LIMIT]; /* a one for each bit of memory that the attempt writes */
+    uint8_t following_bits[MEMORY_LIMIT];
+};
+
+struct outcome {
+    uint64_t value;
+    uint8_t memory[MEMORY_LIMIT];
+    uint8_t room[GREETING_LENGTH + 2 * FED_LIMIT];
+};
+
+struct tally {
+    uint64_t beginnings[BEGINNINGS];
+    uint64_t checked;
+    uint64_t empty;
+    uint64_t with_request;
+    uint64_t changed;          /* the attempt changed memory */
+    uint64_t refused;          /* in the continuation */
+    uint64_t uncovered;        /* cases with a bit left out */
+    uint64_t uncovered_single; /* exactly one */
+    uint64_t uncovered_seen;   /* the bit left out had been changed, and memory differs there */
+    uint64_t uncovered_same;   /* the bit left out had been written as it was */
+};
+
+static struct outcome before, after, with, without;
+
+/* ---- Windows and bits ---- */
+
+static const struct window *window_of(const struct map *map, uint32_t address)
+{
+    for (unsigned index = 0; index < map->count; index++)
+        if (address - map->windows[index].first < map->windows[index].length)
+            return &map->windows[index];
+    fprintf(stderr, "no window holds address 0x%08" PRIX32 "\n", address);
+    exit(2);
+}
+
+static size_t offset_of(const struct map *map, uint32_t address)
+{
+    const struct window *window = window_of(map, address);
+    size_t offset = address - window->first;
+
+    for (const struct window *earlier = map->windows; earlier < window; earlier++)
+        offset += earlier->length;
+    return offset;
+}
+
+static uint32_t address_of(const struct map *map, size_t offset)
+{
+    const struct window *window = map->windows;
+
+    while (offset >= window->length)
+        offset -= (window++)->length;
+    return window->first + (uint32_t)offset;
+}
+
+static bool is_field(const struct command *command)
+{
+    return command->kind == SETTING && (command->type & 0xFF) >= FIELD_SETTING;
+}
+
+/* The bits that a command writes in the byte at this distance from its address. */
+static uint8_t written_bits(const struct command *command, uint32_t distance)
+{
+    uint32_t start = command->type >> 8 & 0xFF, stop = command->type >> 16 & 0xFF;
+
+    if (distance >= command->size)
+        return 0;
+    if (!is_field(command))
+        return 0xFF;
+    return (uint8_t)((0xFFFFFFFF << start & 0xFFFFFFFF >> (31 - stop)) >> (8 * distance));
+}
+
+static void collect_bits(const struct map *map, const struct commands *commands, uint8_t *bits, size_t length)
+{
+    memset(bits, 0, length);
+    for (unsigned index = 0; index < commands->count; index++) {
+        const struct command *command = &commands->list[index];
+        size_t offset = offset_of(map, command->address);
+        for (uint32_t distance = 0; distance < command->size; distance++)
+            bits[offset + distance] |= written_bits(command, distance);
+    }
+}
+
+/* ---- Commands that write memory ---- */
+
+static void add(struct commands *commands, enum kind kind, uint32_t address, uint32_t size, uint32_t type)
+{
+    if (commands->count == COMMAND_LIMIT) {
+        fprintf(stderr, "too many commands\n");
+        exit(2);
+    }
+    commands->list[commands->count++] = (struct command){kind, address, size, type};
+}
+
+static void add_field(struct commands *commands, struct random_source *random, uint32_t address, uint32_t start,
+                      uint32_t end)
+{
+    uint32_t kind = chance(random, 50) ? FIELD_SETTING : OTHER_FIELD_SETTING;
+
+    if (start < end)
+        add(commands, SETTING, address, 4, kind | start << 8 | (end - 1) << 16);
+}
+
+static void add_some_setting(struct commands *commands, struct writer *writer)
+{
+    struct random_source *random = &writer->random;
+    uint32_t kind = random_below(random, 5), unit = kind < WORD_SETTING ? (uint32_t)1 << kind : 4;
+    uint32_t start = random_below(random, 32), address, size;
+
+    if (!choose_range(writer, SET_RIGHT, unit, unit, &address, &size))
+        return;
+    if (kind >= FIELD_SETTING)
+        add_field(commands, random, address, start, start + 1 + random_below(random, 32 - start));
+    else
+        add(commands, SETTING, address, unit, kind | (random_word(random) & 0x00FFFF00));
+}
+
+/* Adds one command that the map grants. Some window has the load or the set right, so there is one. */
+static void add_some_command(struct commands *commands, struct writer *writer)
+{
+    unsigned count = commands->count;
+    uint32_t type, address, size;
+
+    while (commands->count == count) {
+        switch (random_below(&writer->random, 4)) {
+        case 0:
+            if (choose_range(writer, LOAD_RIGHT, 1, LOAD_LIMIT, &address, &size))
+                add(commands, LOAD, address, size, 0);
+            break;
+        case 1:
+            type = random_below(&writer->random, 3);
+            if (choose_range(writer, LOAD_RIGHT, (uint32_t)1 << type, MEMORY_LIMIT, &address, &size))
+                add(commands, FILL, address, size, type);
+            break;
+        default:
+            add_some_setting(commands, writer);
+            break;
+        }
+    }
+}
+
+static void write_command(struct writer *writer, const struct command *command)
+{
+    struct random_source *random = &writer->random;
+    uint32_t data = chance(random, 10) ? tricky_word(random) : random_word(random);
+
+    if (command->kind == LOAD)
+        write_load(writer, command->address, command->size);
+    else if (command->kind == FILL)
+        write_fill(writer, command->address, command->size, command->type, data);
+    else
+        write_setting(writer, command->type, command->address, data, random_below(random, 1000));
+}
+
+static void write_commands(struct writer *writer, const struct commands *commands)
+{
+    for (unsigned index = 0; index < commands->count; index++)
+        write_command(writer, &commands->list[index]);
+}
+
+/* ---- Covering what an attempt wrote ---- */
+
+/* A load of the range, or of a little more on both sides. */
+static void add_wider_load(struct commands *commands, struct random_source *random, const struct window *window,
+                           const struct command *command)
+{
+    uint32_t ahead = command->address - window->first;
+    uint32_t behind = window->length - ahead - command->size;
+    uint32_t more = random_below(random, 5), further = random_below(random, 5);
+
+    more = more < ahead ? more : ahead;
+    further = further < behind ? further : behind;
+    add(commands, LOAD, command->address - more, command->size + more + further, 0);
+}
+
+/* A range in two parts: a load and a fill, in any order. */
+static void add_two_parts(struct commands *commands, struct random_source *random, const struct command *command)
+{
+    uint32_t first = random_below(random, command->size + 1);
+
+    if (first < command->size)
+        add(commands, LOAD, command->address + first, command->size - first, 0);
+    if (first > 0)
+        add(commands, FILL, command->address, first, 0);
+}
+
+/* The unit of a setting by single bytes, or its field in two. */
+static void add_smaller_settings(struct commands *commands, struct random_source *random,
+                                 const struct command *command)
+{
+    uint32_t start = command->type >> 8 & 0xFF, end = (command->type >> 16 & 0xFF) + 1;
+    uint32_t middle = start + random_below(random, 32);
+
+    if (!is_field(command)) {
+        for (uint32_t distance = 0; distance < command->size; distance++)
+            add(commands, SETTING, command->address + distance, 1, BYTE_SETTING);
+        return;
+    }
+    middle = middle < end ? middle : end;
+    add_field(commands, random, command->address, middle, end);
+    add_field(commands, random, command->address, start, middle);
+}
+
+/* Adds commands that write all that one command wrote: the same again, or others. */
+static void add_cover(struct commands *commands, struct random_source *random, const struct map *map,
+                      const struct command *command)
+{
+    const struct window *window = window_of(map, command->address);
+    bool may_load = (window->rights & LOAD_RIGHT) != 0 && command->size <= 200;
+    bool may_set = (window->rights & SET_RIGHT) != 0 && command->size <= 8;
+    uint32_t drawn = random_below(random, 7);
+
+    if (drawn == 0 && may_load)
+        add_wider_load(commands, random, window, command);
+    else if (drawn == 1 && may_load)
+        add_two_parts(commands, random, command);
+    else if (drawn == 2 && may_load)
+        add(commands, FILL, command->address, command->size, 0);
+    else if (drawn == 3 && may_set)
+        add_smaller_settings(commands, random, command);
+    else if (drawn == 4 && command->kind == SETTING && command->size == 4)
+        add(commands, SETTING, command->address, 4, WORD_SETTING);
+    else
+        add(commands, command->kind, command->address, command->size, command->type);
+}
+
+static void shuffle(struct commands *commands, struct random_source *random)
+{
+    for (unsigned left = commands->count; left > 1; left--) {
+        unsigned chosen = random_below(random, left);
+        struct command kept = commands->list[chosen];
+        commands->list[chosen] = commands->list[left - 1];
+        commands->list[left - 1] = kept;
+    }
+}
+
+/* ---- Leaving one bit out ---- */
+
+/* The other seven bits of a byte, where fields may be set in its word. */
+static void add_other_bits(struct commands *commands, struct random_source *random, const struct map *map,
+                           uint32_t address, unsigned bit)
+{
+    const struct window *window = window_of(map, address);
+    uint32_t word = address & ~(uint32_t)3, lowest = 8 * (address - word);
+
+    if ((window->rights & SET_RIGHT) == 0 || word < window->first || window->length < 4 ||
+        word - window->first > window->length - 4)
+        return;
+    add_field(commands, random, word, lowest, lowest + bit);
+    add_field(commands, random, word, lowest + bit + 1, lowest + 8);
+}
+
+/* What one command writes, without this bit of the byte at this address, and without more than need be. */
+static void add_without_bit(struct commands *commands, struct random_source *random, const struct map *map,
+                            const struct command *command, uint32_t address, unsigned bit)
+{
+    uint32_t distance = address - command->address, place = 8 * distance + bit;
+    uint32_t start = is_field(command) ? command->type >> 8 & 0xFF : 0;
+    uint32_t end = is_field(command) ? (command->type >> 16 & 0xFF) + 1 : 32;
+
+    if ((written_bits(command, distance) >> bit & 1) == 0) {
+        add(commands, command->kind, command->address, command->size, command->type);
+    } else if (command->kind == SETTING && command->size == 4) {
+        add_field(commands, random, command->address, start, place);
+        add_field(commands, random, command->address, place + 1, end);
+    } else if (command->kind == SETTING) {
+        if (command->size == 2)
+            add(commands, SETTING, address ^ 1, 1, BYTE_SETTING);
+        add_other_bits(commands, random, map, address, bit);
+    } else {
+        if (distance > 0)
+            add(commands, command->kind, command->address, distance, 0);
+        if (distance + 1 < command->size)
+            add(commands, command->kind, address + 1, command->size - distance - 1, 0);
+        add_other_bits(commands, random, map, address, bit);
+    }
+}
+
+/* ---- Cases ---- */
+
+static void write_prefix_command(struct writer *writer)
+{
+    static const uint32_t switches[] = {OPCODE_ENABLE, OPCODE_ENABLE, OPCODE_DISABLE, OPCODE_START_OVER};
+    struct commands one = {.count = 0};
+    uint32_t address, size;
+
+    switch (random_below(&writer->random, 10)) {
+    case 0:
+        write_switch(writer, PICK(&writer->random, switches));
+        break;
+    case 1:
+        write_sent_request(writer);
+        break;
+    case 2:
+        write_ping(writer, random_below(&writer->random, 4));
+        break;
+    case 3:
+        if (choose_range(writer, ENTRY_RIGHT, 4, 4, &address, &size))
+            write_jump(writer, OPCODE_JUMP, address);
+        break;
+    default:
+        add_some_command(&one, writer);
+        write_commands(writer, &one);
+        break;
+    }
+}
+
+/* Ends where an attempt begins. Bytes before the start word are ignored, and it may come several times. */
+static void write_prefix(struct retry_case *retry_case)
+{
+    struct writer *writer = &retry_case->prefix;
+    struct random_source *random = &writer->random;
+
+    for (unsigned count = chance(random, 15) ? random_below(random, 6) : 0; count > 0; count--)
+        write_byte(writer, (uint8_t)(START_WORD + 1 + random_below(random, 255)));
+    write_start_words(writer, 1 + (chance(random, 20) ? random_below(random, 4) : 0));
+    retry_case->beginning = random_below(random, BEGINNINGS);
+    if (retry_case->beginning == AFTER_START_WORD)
+        return;
+    if (chance(random, 80))
+        write_switch(writer, chance(random, 80) ? OPCODE_ENABLE : OPCODE_DISABLE);
+    for (unsigned count = random_below(random, 6); count > 0; count--)
+        write_prefix_command(writer);
+    if (retry_case->beginning == AFTER_REQUEST)
+        write_sent_request(writer);
+    else
+        write_switch(writer, retry_case->beginning == AFTER_ENABLE ? OPCODE_ENABLE : OPCODE_START_OVER);
+}
+
+static void write_attempt(struct retry_case *retry_case)
+{
+    struct writer *writer = &retry_case->attempt;
+    unsigned count = chance(&writer->random, 10) ? 0 : 1 + random_below(&writer->random, ATTEMPT_LIMIT);
+
+    retry_case->attempted.count = 0;
+    while (count-- > 0)
+        add_some_command(&retry_case->attempted, writer);
+    write_commands(writer, &retry_case->attempted);
+    retry_case->has_request = chance(&writer->random, 40);
+    if (retry_case->has_request)
+        write_sent_request(writer);
+    write_switch(writer, OPCODE_START_OVER);
+}
+
+static void write_following(struct retry_case *retry_case)
+{
+    struct writer *writer = &retry_case->following;
+    struct commands *repeated = &retry_case->repeated;
+    unsigned more = chance(&writer->random, 40) ? random_below(&writer->random, 4) : 0;
+
+    repeated->count = 0;
+    for (unsigned index = 0; index < retry_case->attempted.count; index++)
+        add_cover(repeated, &writer->random, &retry_case->map, &retry_case->attempted.list[index]);
+    for (more += repeated->count == 0; more > 0; more--)
+        add_some_command(repeated, writer);
+    if (chance(&writer->random, 80))
+        shuffle(repeated, &writer->random);
+    write_commands(writer, repeated);
+}
+
+/* Any bytes. A Request comes first at times, so that the register is seen. */
+static void write_continuation(struct writer *writer)
+{
+    struct random_source *random = &writer->random;
+
+    if (chance(random, 50))
+        write_sent_request(writer);
+    for (unsigned count = random_below(random, 7); count > 0; count--) {
+        if (chance(random, 6))
+            write_flawed_command(writer);
+        else
+            write_good_command(writer);
+    }
+    for (unsigned count = chance(random, 10) ? random_below(random, 20) : 0; count > 0; count--)
+        write_byte(writer, (uint8_t)random_word(random));
+    if (chance(random, 20))
+        write_good_jump(writer, OPCODE_JUMP_AND_CLOSE);
+    for (unsigned count = chance(random, 40) ? 1 + random_below(random, 3) : 0; count > 0; count--)
+        damage_script(writer);
+}
+
+static bool may_be_written(const struct map *map)
+{
+    for (unsigned index = 0; index < map->count; index++)
+        if ((map->windows[index].rights & (LOAD_RIGHT | SET_RIGHT)) != 0)
+            return true;
+    return false;
+}
+
+static void begin_part(struct retry_case *retry_case, struct writer *writer, uint64_t part)
+{
+    writer->random = random_from(retry_case->seed ^ part << 56, retry_case->number);
+    begin_script(writer, &retry_case->map, false);
+}
+
+static void make_retry_case(struct retry_case *retry_case, uint64_t seed, uint64_t number)
+{
+    struct random_source random = random_from(seed, number);
+    bool is_large = random_below(&random, 400) == 0;
+
+    retry_case->seed = seed;
+    retry_case->number = number;
+    do {
+        if (is_large)
+            make_large_map(&random, &retry_case->map);
+        else
+            make_good_map(&random, &retry_case->map);
+    } while (!may_be_written(&retry_case->map));
+    retry_case->memory_length = (size_t)map_sum(&retry_case->map);
+    random_bytes(&random, retry_case->memory, retry_case->memory_length);
+    begin_part(retry_case, &retry_case->prefix, 1);
+    write_prefix(retry_case);
+    retry_case->is_checked = retry_case->prefix.checksum_on;
+    begin_part(retry_case, &retry_case->attempt, 2);
+    write_attempt(retry_case);
+    begin_part(retry_case, &retry_case->following, 3);
+    write_following(retry_case);
+    begin_part(retry_case, &retry_case->continuation, 4);
+    write_continuation(&retry_case->continuation);
+    collect_bits(&retry_case->map, &retry_case->attempted, retry_case->attempt_bits, retry_case->memory_length);
+    collect_bits(&retry_case->map, &retry_case->repeated, retry_case->following_bits, retry_case->memory_length);
+}
+
+/* ---- Feeding ---- */
+
+/* Feeds the prefix and the other parts that are given, one after another, to a new session. */
+static void feed(const struct retry_case *retry_case, struct outcome *outcome, const struct writer *attempt,
+                 const struct writer *following, const struct writer *continuation)
+{
+    const struct writer *parts[] = {&retry_case->prefix, attempt, following, continuation};
+    static uint8_t fed[FED_LIMIT];
+    size_t length = 0;
+
+    for (unsigned index = 0; index < 4; index++) {
+        if (parts[index] == NULL)
+            continue;
+        if (parts[index]->length > FED_LIMIT - length) {
+            fprintf(stderr, "too many bytes to feed\n");
+            exit(2);
+        }
+        memcpy(fed + length, parts[index]->bytes, parts[index]->length);
+        length += parts[index]->length;
+    }
+    memcpy(outcome->memory, retry_case->memory, retry_case->memory_length);
+    outcome->value = ais_sent_session(retry_case->map.bytes, retry_case->map.length, outcome->memory,
+                                      retry_case->memory_length, fed, length, outcome->room,
+                                      GREETING_LENGTH + 2 * length);
+}
+
+static uint32_t reply_count(const struct outcome *outcome)
+{
+    return (uint32_t)outcome->value;
+}
+
+static uint32_t refusal_of(const struct outcome *outcome)
+{
+    return (uint32_t)(outcome->value >> 32);
+}
+
+/* ---- Checking ---- */
+
+static bool expect(bool holds, const char *what)
+{
+    if (!holds)
+        printf("not so: %s\n", what);
+    return holds;
+}
+
+/* That the case is what it is meant to be: one acknowledgement for each command, and no bit uncovered. */
+static bool case_is_sound(const struct retry_case *retry_case)
+{
+    uint32_t acknowledged = 4 * retry_case->attempted.count + (retry_case->has_request ? 8 : 0) + 4;
+    uint32_t following = 4 * retry_case->repeated.count;
+    bool is_covered = true, is_confined = true;
+
+    for (size_t index = 0; index < retry_case->memory_length; index++) {
+        is_covered &= (retry_case->attempt_bits[index] & ~retry_case->following_bits[index]) == 0;
+        is_confined &= ((before.memory[index] ^ after.memory[index]) & ~retry_case->attempt_bits[index]) == 0;
+    }
+    return expect(refusal_of(&before) == 0, "the prefix is accepted") &&
+           expect(refusal_of(&after) == 0, "the attempt is accepted") &&
+           expect(refusal_of(&with) == 0, "the following commands are accepted") &&
+           expect(reply_count(&after) == reply_count(&before) + acknowledged, "the attempt is acknowledged") &&
+           expect(reply_count(&with) == reply_count(&after) + following, "the following commands are acknowledged") &&
+           expect(is_covered, "the following commands cover the attempt") &&
+           expect(is_confined, "the attempt changes only bits that it writes");
+}
+
+/* Replies up to the attempt, and from its close on, and the refusal. */
+static bool same_replies(void)
+{
+    uint32_t earlier = reply_count(&before), closed = reply_count(&after);
+
+    if (!expect(reply_count(&with) >= closed && reply_count(&without) >= earlier, "no reply is lost") ||
+        !expect(reply_count(&with) - closed == reply_count(&without) - earlier, "as many replies after the close"))
+        return false;
+    return expect(memcmp(with.room, without.room, earlier) == 0, "the same replies before the attempt") &&
+           expect(memcmp(with.room + closed, without.room + earlier, reply_count(&with) - closed) == 0,
+                  "the same replies after the close") &&
+           expect(refusal_of(&with) == refusal_of(&without), "the same refusal");
+}
+
+/* Memory differs in the bits that the attempt changed and the commands after it don't write, and in no others. */
+static bool differs_as_expected(const struct retry_case *retry_case, const uint8_t *rewritten)
+{
+    for (size_t index = 0; index < retry_case->memory_length; index++) {
+        uint8_t expected = (uint8_t)((before.memory[index] ^ after.memory[index]) & ~rewritten[index]);
+        uint8_t found = with.memory[index] ^ without.memory[index];
+        if (found != expected) {
+            printf("memory byte %zu: bits %02X differ, and not %02X\n", index, found, expected);
+            return false;
+        }
+    }
+    return true;
+}
+
+static bool leaves_no_trace(const struct retry_case *retry_case, struct tally *tally)
+{
+    size_t length = retry_case->memory_length;
+
+    feed(retry_case, &before, NULL, NULL, NULL);
+    feed(retry_case, &after, &retry_case->attempt, NULL, NULL);
+    feed(retry_case, &with, &retry_case->attempt, &retry_case->following, NULL);
+    feed(retry_case, &without, NULL, &retry_case->following, NULL);
+    if (!case_is_sound(retry_case) || !same_replies() ||
+        !expect(memcmp(with.memory, without.memory, length) == 0, "the same memory after the following commands"))
+        return false;
+    feed(retry_case, &with, &retry_case->attempt, &retry_case->following, &retry_case->continuation);
+    feed(retry_case, &without, NULL, &retry_case->following, &retry_case->continuation);
+    tally->beginnings[retry_case->beginning]++;
+    tally->checked += retry_case->is_checked;
+    tally->empty += retry_case->attempted.count == 0;
+    tally->with_request += retry_case->has_request;
+    tally->changed += memcmp(before.memory, after.memory, length) != 0;
+    tally->refused += refusal_of(&with) != 0;
+    return same_replies() && expect(memcmp(with.memory, without.memory, length) == 0, "the same memory at the end");
+}
+
+/* Chooses a bit that the attempt wrote, or changed; false where there is none. */
+static bool choose_bit(const struct retry_case *retry_case, struct random_source *random, size_t *offset,
+                       unsigned *bit)
+{
+    bool is_changed = chance(random, 85);
+    size_t length = retry_case->memory_length, begin = random_below(random, (uint32_t)length);
+
+    for (size_t tried = 0; tried < length; tried++) {
+        size_t index = (begin + tried) % length;
+        uint8_t bits = retry_case->attempt_bits[index];
+        bits &= is_changed ? before.memory[index] ^ after.memory[index] : 0xFF;
+        if (bits == 0)
+            continue;
+        *offset = index;
+        do
+            *bit = random_below(random, 8);
+        while ((bits >> *bit & 1) == 0);
+        return true;
+    }
+    return false;
+}
+
+static void count_uncovered(const struct retry_case *retry_case, struct tally *tally, const uint8_t *rewritten,
+                            bool is_seen)
+{
+    unsigned left_out = 0;
+
+    for (size_t index = 0; index < retry_case->memory_length; index++)
+        for (unsigned bits = retry_case->attempt_bits[index] & ~rewritten[index]; bits != 0; bits &= bits - 1)
+            left_out++;
+    tally->uncovered++;
+    tally->uncovered_single += left_out == 1;
+    tally->uncovered_seen += is_seen;
+    tally->uncovered_same += !is_seen;
+}
+
+/* The same attempt, followed by commands that leave one of its bits out. */
+static bool leaves_the_uncovered_bit(struct retry_case *retry_case, struct tally *tally)
+{
+    static struct writer following;
+    static struct commands commands;
+    static uint8_t rewritten[MEMORY_LIMIT];
+    size_t offset;
+    unsigned bit;
+    bool was_changed, is_seen;
+
+    begin_part(retry_case, &following, 5);
+    if (!choose_bit(retry_case, &following.random, &offset, &bit))
+        return true;
+    commands.count = 0;
+    for (unsigned index = 0; index < retry_case->repeated.count; index++)
+        add_without_bit(&commands, &following.random, &retry_case->map, &retry_case->repeated.list[index],
+                        address_of(&retry_case->map, offset), bit);
+    write_commands(&following, &commands);
+    collect_bits(&retry_case->map, &commands, rewritten, retry_case->memory_length);
+    feed(retry_case, &with, &retry_case->attempt, &following, NULL);
+    feed(retry_case, &without, NULL, &following, NULL);
+    was_changed = ((before.memory[offset] ^ after.memory[offset]) >> bit & 1) != 0;
+    is_seen = ((with.memory[offset] ^ without.memory[offset]) >> bit & 1) != 0;
+    count_uncovered(retry_case, tally, rewritten, is_seen);
+    return expect((rewritten[offset] >> bit & 1) == 0, "the bit is left out") &&
+           expect(refusal_of(&with) == 0, "the commands that leave a bit out are accepted") && same_replies() &&
+           expect(is_seen == was_changed, "the bit left out differs just when the attempt changed it") &&
+           differs_as_expected(retry_case, rewritten);
+}
+
+/* ---- The whole run ---- */
+
+static void print_tally(const struct tally *tally)
+{
+    static const char *const names[] = {"the start word", "an Enable", "a Request", "a Start-Over"};
+
+    for (unsigned index = 0; index < BEGINNINGS; index++)
+        printf("attempts after %-24s%10" PRIu64 "\n", names[index], tally->beginnings[index]);
+    printf("%-39s%10" PRIu64 "\n", "attempts with the checksum on", tally->checked);
+    printf("%-39s%10" PRIu64 "\n", "attempts with no command", tally->empty);
+    printf("%-39s%10" PRIu64 "\n", "attempts with a Request", tally->with_request);
+    printf("%-39s%10" PRIu64 "\n", "attempts that changed memory", tally->changed);
+    printf("%-39s%10" PRIu64 "\n", "continuations refused", tally->refused);
+    printf("%-39s%10" PRIu64 "\n", "cases with a bit left uncovered", tally->uncovered);
+    printf("%-39s%10" PRIu64 "\n", "  exactly one", tally->uncovered_single);
+    printf("%-39s%10" PRIu64 "\n", "  changed, and the difference seen", tally->uncovered_seen);
+    printf("%-39s%10" PRIu64 "\n", "  written as it was, and no difference", tally->uncovered_same);
+}
+
+/* Every beginning, and a difference seen in a tenth of the cases. */
+static bool enough_met(const struct tally *tally, uint64_t count)
+{
+    bool is_met = tally->empty > 0 && tally->with_request > 0 && tally->uncovered_seen >= count / 10;
+
+    for (unsigned index = 0; index < BEGINNINGS; index++)
+        is_met &= tally->beginnings[index] > 0;
+    return is_met;
+}
+
+int main(int argument_count, char **arguments)
+{
+    static struct retry_case retry_case;
+    static struct tally tally;
+    uint64_t count = argument_count > 1 ? strtoull(arguments[1], NULL, 0) : 50000;
+    uint64_t seed = argument_count > 2 ? strtoull(arguments[2], NULL, 0) : 1;
+    uint64_t first = argument_count > 3 ? strtoull(arguments[3], NULL, 0) : 0;
+    clock_t begin = clock();
+
+    for (uint64_t number = first; number < first + count; number++) {
+        make_retry_case(&retry_case, seed, number);
+        if (!leaves_no_trace(&retry_case, &tally) || !leaves_the_uncovered_bit(&retry_case, &tally)) {
+            printf("FAILURE: to see it again: retries 1 %" PRIu64 " %" PRIu64 "\n", seed, number);
+            return 1;
+        }
+    }
+    print_tally(&tally);
+    printf("\n%" PRIu64 " cases of seed %" PRIu64 " in %.1f seconds, no failure\n", count, seed,
+           (double)(clock() - begin) / CLOCKS_PER_SEC);
+    if (argument_count <= 3 && !enough_met(&tally, count)) {
+        printf("not enough was met\n");
+        return 1;
+    }
+    return 0;
+}
