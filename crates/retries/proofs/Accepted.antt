@@ -31,7 +31,7 @@ use Rattle.sent.specs.declared.Taken.{Taken}
 use Rattle.retries.specs.Feeding.{State, Heard, NoneRefused}
 use Rattle.retries.specs.Pieces.{Piece, load, fill, setting, four, bytesOf, Sendable, judgedOf}
 use Rattle.retries.proofs.Feeding.{none-refused-append, Goes}
-use Rattle.retries.proofs.Line.{running, ready, word-accepted, word-again}
+use Rattle.retries.proofs.Line.{running, word-accepted, word-again}
 use Rattle.retries.proofs.Taking.{begun-plain, taking, awaiting, load-begins, fill-begins, setting-begins}
 
 -- a command has a place

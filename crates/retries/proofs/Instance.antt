@@ -21,7 +21,7 @@ use Rattle.sent.specs.Machine.{after, awaited, wordStep}
 use Rattle.sent.specs.Opening.{openedBy}
 use Rattle.retries.specs.Example.{before, start, sent, abandoned, repeated, Worked, missing, OneBitMissed, middle, nothing, InTheMiddle, started, NothingFollows}
 use Rattle.retries.specs.Feeding.{State, Heard, register, fed, answers, NoneRefused}
-use Rattle.retries.specs.Pieces.{load, setting, bytesOf, allBytes, AllSendable, effectOf, someWrites}
+use Rattle.retries.specs.Pieces.{bytesOf, allBytes, AllSendable, effectOf, someWrites}
 use Rattle.retries.specs.Retries.{Awaits, Begins, attemptBytes, Retried}
 use Rattle.retries.proofs.Feeding.{none-refused-by}
 use Rattle.retries.proofs.Memory.{allSmall, bytes-by}
@@ -71,7 +71,10 @@ record Computed : Type 0 where
   acknowledged-none : fed started [] .session .core .begun ≡ false
 
 computed : Computed
-unfolding bit join withField within byte number bytesAt put fits fieldFits fieldWritten pick checksum.shifted checksum.fedBit checksum.fed checksum.fedWords hasRight inside grantsRange placeFrom placeOf sumOf soundWindow allSound rising goodMap keptOf rows rowServes foundIn lookedUp multiple rangeJudged loadJudged loaded fieldShape shapeOf unitJudged settingDone settingMemory pushed carried isStart byteStep after awaited wordStep openedBy start fed bytesOf allBytes answers middle started allSmall effectOf someWrites
+unfolding bit join withField within byte number bytesAt put fits fieldFits fieldWritten pick checksum.shifted checksum.fedBit checksum.fed
+    checksum.fedWords hasRight inside grantsRange placeFrom placeOf sumOf soundWindow allSound rising goodMap keptOf rows rowServes foundIn
+    lookedUp multiple rangeJudged loadJudged loaded fieldShape shapeOf unitJudged settingDone settingMemory pushed carried isStart byteStep
+    after awaited wordStep openedBy start fed bytesOf allBytes answers middle started allSmall effectOf someWrites
 computed = record {
   begins = record {
     awaits = record { running = refl; lent = refl; bytes = bytes-by before refl; started = refl; fresh = (refl, refl); opcode = refl };
@@ -85,7 +88,14 @@ computed = record {
   never-tried = refl;
   after-missing = refl;
   bit-left = refl;
-  awaits-middle = record { running = refl; lent = eight refl refl; bytes = bytes-by (0x7F ∷ 0 ∷ 0 ∷ 0 ∷ 1 ∷ 2 ∷ 3 ∷ 0xAA ∷ []) refl; started = refl; fresh = (refl, refl); opcode = refl };
+  awaits-middle = record {
+    running = refl;
+    lent = eight refl refl;
+    bytes = bytes-by (0x7F ∷ 0 ∷ 0 ∷ 0 ∷ 1 ∷ 2 ∷ 3 ∷ 0xAA ∷ []) refl;
+    started = refl;
+    fresh = (refl, refl);
+    opcode = refl;
+  };
   middle-tried = refl;
   after-middle = refl;
   register-lost = refl;

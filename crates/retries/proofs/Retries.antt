@@ -4,17 +4,21 @@ use Prim.Native.Nat.{ℕ}
 use mathlib.Core.Bool.{Bool, true, false}
 use mathlib.Core.List.{List, [], _∷_, _++_, map, append-nil}
 use mathlib.Core.Path.{_≡_, refl, sym, ap, ap₂, subst, subst₂, _∙_}
+use lib.Dec.{lit<}
 use lib.ListN.{length}
+use Rattle.words.specs.Bytes.{byte}
 use Rattle.words.specs.Choice.{pick}
 use Rattle.windows.specs.Window.{sumOf}
 use Rattle.windows.specs.declared.Window.{Window}
+use Rattle.script.specs.Opcodes.{rows, rowServes, foundIn, lookedUp}
+use Rattle.sent.specs.Machine.{wordStep}
 use Rattle.retries.specs.Feeding.{State, Heard, register, fed, answers, NoneRefused}
 use Rattle.retries.specs.Pieces.{Piece, four, allBytes, AreBytes, AllSendable, Covers, requestOpcode, startOverOpcode}
-use Rattle.retries.specs.Retries.{Begins, Attempt, attemptBytes, attemptsBytes, attemptsPieces, Reports, NoTrace, Retried, RetriesLeaveNoTrace, ManyRetriesLeaveNoTrace}
+use Rattle.retries.specs.Retries.{Begins, Attempt, askingOpcode, attemptBytes, attemptsBytes, attemptsPieces, Reports, NoTrace, Retried, RetriesLeaveNoTrace, ManyRetriesLeaveNoTrace}
 use Rattle.retries.proofs.Beginnings.{awaits-awaiting}
 use Rattle.retries.proofs.Feeding.{fed-append, answers-append, none-refused-append, Goes, _then_}
 use Rattle.retries.proofs.Several.{registersOf, memoriesOf, heardAll, begunBy, AllGranted, sendable-append, granted-append, memories-append, several-length, written-over, several-go, several-accepted}
-use Rattle.retries.proofs.Taking.{awaiting, request-goes, start-over-goes}
+use Rattle.retries.proofs.Taking.{awaiting, opcode-goes, request-goes, start-over-goes}
 
 -- the state where an attempt begins
 begins-awaiting : (x : State) → Begins x → x ≡ awaiting (x .session .core .windows) (x .session .core .on) (x .session .core .begun) 0 (x .memory)
@@ -31,10 +35,10 @@ record Left (windows : List Window) (on : Bool) (attempts : List Attempt) (begun
 module _ (windows : List Window) (on : Bool) where
   -- a Request or none, and a Start-Over: the register is 0 and the session has begun
   closing-leads : (asked begun : Bool) (register : ℕ) (m : List ℕ) → length m ≡ sumOf windows
-      → fed (awaiting windows on begun register m) (pick asked (four requestOpcode) [] ++ four startOverOpcode) ≡ awaiting windows on true 0 m
-  unfolding pick
+      → fed (awaiting windows on begun register m) (pick asked (four askingOpcode) [] ++ four startOverOpcode) ≡ awaiting windows on true 0 m
+  unfolding wordStep lookedUp foundIn rows rowServes pick byte
   closing-leads true begun register m lent =
-      (request-goes windows on begun register m lent then start-over-goes windows on true 0 m lent) .leads
+      (opcode-goes windows on begun register m lent askingOpcode (lit< tt) refl refl then start-over-goes windows on true _ m lent) .leads
   closing-leads false begun register m lent = start-over-goes windows on begun register m lent .leads
 
   attempt-leads : (a : Attempt) (begun : Bool) (register : ℕ) (m : List ℕ) → length m ≡ sumOf windows
@@ -42,7 +46,7 @@ module _ (windows : List Window) (on : Bool) where
       → fed (awaiting windows on begun register m) (attemptBytes a) ≡ awaiting windows on true 0 (memoriesOf windows (a .pieces) m)
   attempt-leads a begun register m lent s g =
       fed-append _ (allBytes (a .pieces)) _
-      ∙ ap (λ (y : State). fed y (pick (a .asked) (four requestOpcode) [] ++ four startOverOpcode))
+      ∙ ap (λ (y : State). fed y (pick (a .asked) (four askingOpcode) [] ++ four startOverOpcode))
       (several-go windows on (a .pieces) begun register m lent s g .leads)
       ∙ closing-leads (a .asked) _ _ _ (several-length windows (a .pieces) m lent g ∙ lent)
 

@@ -52,9 +52,13 @@ pub record Attempt : Type 0 where
   pub pieces : List Piece
   pub asked : Bool
 
+-- what it may hold before its Start-Over
+abbrev pub askingOpcode : ℕ
+askingOpcode = requestOpcode
+
 -- its bytes
 abbrev pub attemptBytes : Attempt → List ℕ
-attemptBytes a = allBytes (a .pieces) ++ (pick (a .asked) (four requestOpcode) [] ++ four startOverOpcode)
+attemptBytes a = allBytes (a .pieces) ++ (pick (a .asked) (four askingOpcode) [] ++ four startOverOpcode)
 
 -- the bytes and the commands of any number of attempts in a row
 unfoldable pub attemptsBytes : List Attempt → List ℕ
