@@ -1,11 +1,11 @@
 -- The replies to n bytes are at most 2 × n bytes: each byte fed pays for two, what is gathered of a word is not yet spent, a start word takes
 -- one and a whole word at most the eight that its four bytes paid for.
-use Prim.Native.Nat.{ℕ, _+_, _*_, _≤_}
+use Prim.Native.Nat.{ℕ, _+_, _-_, _*_, _≤_}
 use mathlib.Core.List.{List, [], _∷_}
 use mathlib.Core.Logic.{_≢_}
 use mathlib.Core.Path.{_≡_, refl}
 use native.Mathlib.Omega.{arith}
-use borrow.Author.Tests.{ltb-false, eqb-false}
+use borrow.Author.Tests.{ltb-false, eqb-true, eqb-false}
 use lib.ListN.{length, length-append}
 use Rattle.words.proofs.Choice.{of-choice}
 use Rattle.windows.specs.declared.Window.{Window}
@@ -23,10 +23,11 @@ use Rattle.commands.specs.declared.Judged.{Judged}
 use Rattle.commands.specs.declared.Judged.the-variants.{Granted, Refused}
 use Rattle.sent.specs.Line.{Outcome, pushed, carried, byteStep}
 use Rattle.sent.specs.Machine as machine
-use Rattle.sent.specs.Machine.{after, opcodeTaken, atOpcode, loadBegun, inPhase, wordStep}
+use Rattle.sent.specs.Machine.{after, noneKept, loadBegun, performed, toward, begun, acknowledging, atOpcode, inPhase, wordStep}
 use Rattle.sent.specs.Opening.{openedBy}
-use Rattle.sent.specs.Replies.{silence, oneWord, twoWords, sentBytes}
+use Rattle.sent.specs.Replies.{silence, oneWord, wordThen, acknowledged, sentBytes}
 use Rattle.sent.specs.declared.Core.{Core}
+use Rattle.sent.specs.declared.Kept.{Kept}
 use Rattle.sent.specs.declared.Line.{Line}
 use Rattle.sent.specs.declared.Opened.{Opened}
 use Rattle.sent.specs.declared.Phase.{Phase}
@@ -40,10 +41,10 @@ use Rattle.bench.specs.Feeding.{fedAll}
 data Says (q : Refusal) : Reply → Type 0 where
   nothing : Says q silence
   one : (v : ℕ) → numberOf q ≡ 0 → Says q (oneWord v)
-  two : (v w : ℕ) → numberOf q ≡ 0 → Says q (twoWords v w)
+  two : (v w : ℕ) → numberOf q ≡ 0 → Says q (wordThen v (oneWord w))
 
 most-eight : {q : Refusal} {r : Reply} → Says q r → length (sentBytes r) ≤ 8
-unfolding oneWord twoWords
+unfolding oneWord wordThen
 most-eight nothing = omega arith
 most-eight (one v e) = omega arith
 most-eight (two v w e) = omega arith
@@ -53,53 +54,66 @@ refused-silent nothing refused = refl
 refused-silent (one v e) refused = absurd (refused e)
 refused-silent (two v w e) refused = absurd (refused e)
 
--- each word, by the phase that awaits it
+-- each command says nothing or one word, and its opcode is acknowledged before that
+data SaysLittle (q : Refusal) : Reply → Type 0 where
+  nothing : SaysLittle q silence
+  one : (v : ℕ) → numberOf q ≡ 0 → SaysLittle q (oneWord v)
+
 abbrev Spoken : Taken → Type 0
 Spoken t = Says (t .refusal) (t .reply)
 
+abbrev LittleSpoken : Taken → Type 0
+LittleSpoken t = SaysLittle (t .refusal) (t .reply)
+
+little-spoken : {q : Refusal} {r : Reply} → SaysLittle q r → Says q r
+little-spoken nothing = nothing
+little-spoken (one v e) = one v e
+
+acknowledged-spoken : (opcode : ℕ) (t : Taken) → LittleSpoken t → Spoken (acknowledging opcode t)
+unfolding acknowledging oneWord wordThen
+acknowledged-spoken opcode t says = of-choice Spoken _ (λ e. before (t .refusal) (t .reply) (eqb-true _ _ e) says) (λ e. little-spoken says)
+  where
+    before : (q : Refusal) (r : Reply) → numberOf q ≡ 0 → SaysLittle q r → Says q (wordThen (acknowledged opcode) r)
+    before q r e nothing = one (acknowledged opcode) e
+    before q r e (one v h) = two (acknowledged opcode) v e
+
 module _ (k : Core) where
-  after-spoken : (done : Done) → Spoken (after k done)
+  after-spoken : (done : Done) → LittleSpoken (after k done)
   unfolding after
-  after-spoken done = of-choice Spoken _ (λ e. nothing) (λ e. nothing)
+  after-spoken done = of-choice LittleSpoken _ (λ e. nothing) (λ e. nothing)
 
-  opcode-spoken : (opcode : ℕ) (c : Command) → Spoken (opcodeTaken k opcode c)
-  opcode-spoken opcode command.Load = one _ refl
-  opcode-spoken opcode command.Fill = one _ refl
-  opcode-spoken opcode command.BootTable = one _ refl
-  opcode-spoken opcode command.Enable = one _ refl
-  opcode-spoken opcode command.Disable = one _ refl
-  opcode-spoken opcode command.Request = two _ _ refl
-  opcode-spoken opcode command.StartOver = one _ refl
-  opcode-spoken opcode command.Jump = one _ refl
-  opcode-spoken opcode command.JumpAndClose = one _ refl
-  opcode-spoken opcode command.Ping = one _ refl
-  opcode-spoken opcode command.SequentialRead = nothing
-
-  found-spoken : (opcode : ℕ) (found : Found) → Spoken (atOpcode k opcode found)
-  found-spoken opcode Unknown = nothing
-  found-spoken opcode (Known c words) = opcode-spoken opcode c
-
-  load-spoken : (address size : ℕ) (j : Judged) → Spoken (loadBegun k address size j)
+  load-spoken : (address size : ℕ) (j : Judged) → LittleSpoken (loadBegun k address size j)
   load-spoken address size (Granted place) = nothing
   load-spoken address size (Refused q) = nothing
 
+  performed-spoken : (m : List ℕ) (kept : Kept) (word : ℕ) (c : Command) → LittleSpoken (performed c k m kept word .answer)
+  performed-spoken m kept word command.Load = load-spoken (kept .third) word (loadJudged (k .windows) (kept .third) word)
+  performed-spoken m kept word command.Fill = after-spoken _
+  performed-spoken m kept word command.BootTable = after-spoken _
+  performed-spoken m kept word command.Enable = nothing
+  performed-spoken m kept word command.Disable = nothing
+  performed-spoken m kept word command.Request = one _ refl
+  performed-spoken m kept word command.StartOver = nothing
+  performed-spoken m kept word command.Jump = after-spoken _
+  performed-spoken m kept word command.JumpAndClose = after-spoken _
+  performed-spoken m kept word command.Ping = one _ refl
+  performed-spoken m kept word command.SequentialRead = nothing
+
+  toward-spoken : (m : List ℕ) (kept : Kept) (word left : ℕ) (c : Command) → LittleSpoken (toward c left k m kept word .answer)
+  toward-spoken m kept word left c =
+      of-choice (λ (o : machine.Outcome). LittleSpoken (o .answer)) _ (λ e. performed-spoken m kept word c) (λ e. nothing)
+
+-- each word, by the phase that awaits it
+module _ (k : Core) where
+  opcode-spoken : (m : List ℕ) (opcode : ℕ) (found : Found) → Spoken (atOpcode k m opcode found .answer)
+  opcode-spoken m opcode Unknown = nothing
+  opcode-spoken m opcode (Known c words) = acknowledged-spoken opcode _ (toward-spoken (begun k) m noneKept 0 words c)
+
   phase-spoken : (m : List ℕ) (word : ℕ) (p : Phase) → Spoken (inPhase p k m word .answer)
-  phase-spoken m word phase.Opcode = found-spoken word (lookedUp word Sent)
-  phase-spoken m word phase.LoadAddress = nothing
-  phase-spoken m word (phase.LoadSize address) = load-spoken address word (loadJudged (k .windows) address word)
+  phase-spoken m word phase.Opcode = opcode-spoken m word (lookedUp word Sent)
+  phase-spoken m word (phase.Argument c left kept) = little-spoken (toward-spoken k m kept word (left - 1) c)
   phase-spoken m word (phase.Data end left) = nothing
-  phase-spoken m word phase.FillAddress = nothing
-  phase-spoken m word (phase.FillSize address) = nothing
-  phase-spoken m word (phase.FillType address size) = nothing
-  phase-spoken m word (phase.FillPattern address size kind) = after-spoken _
-  phase-spoken m word phase.SetType = nothing
-  phase-spoken m word (phase.SetAddress kind) = nothing
-  phase-spoken m word (phase.SetData kind address) = nothing
-  phase-spoken m word (phase.SetDelay kind address value) = after-spoken _
-  phase-spoken m word phase.JumpTo = after-spoken _
-  phase-spoken m word phase.CloseTo = after-spoken _
-  phase-spoken m word phase.PingCount = one _ refl
-  phase-spoken m word (phase.PingWords n) = one _ refl
+  phase-spoken m word (phase.Echo n) = one _ refl
 
   word-spoken : (m : List ℕ) (word : ℕ) → Spoken (wordStep k m word .answer)
   unfolding wordStep

@@ -8,6 +8,7 @@ use lib.Dec.{eqb, lit<}
 use lib.ListN.{length}
 use borrow.Author.Tests.{ne-eqb}
 use Rattle.words.specs.Bytes.{byte}
+use Rattle.words.specs.Choice.{pick}
 use Rattle.words.proofs.Choice.{passed, of-choice}
 use Rattle.windows.specs.Window.{sumOf, placeOf}
 use Rattle.windows.specs.declared.Place.{Place}
@@ -15,6 +16,7 @@ use Rattle.windows.specs.declared.Place.the-variants.{At, Nowhere}
 use Rattle.windows.specs.declared.Right.{Right}
 use Rattle.windows.specs.declared.Window.{Window}
 use Rattle.script.specs.Answers.{numberOf}
+use Rattle.script.specs.declared.Command.the-variants as command
 use Rattle.script.specs.declared.Event.{Event}
 use Rattle.script.specs.declared.Refusal.{Refusal}
 use Rattle.script.specs.declared.Refusal.the-variants as refusal
@@ -26,13 +28,12 @@ use Rattle.commands.specs.declared.Shape.the-variants.{Bits, Wrong}
 use Rattle.sent.specs.Machine.{after, loadBegun, wordStep}
 use Rattle.sent.specs.declared.Core.{Core}
 use Rattle.sent.specs.declared.Phase.{Phase}
-use Rattle.sent.specs.declared.Phase.the-variants as phase
 use Rattle.sent.specs.declared.Taken.{Taken}
 use Rattle.retries.specs.Feeding.{State, Heard, NoneRefused}
 use Rattle.retries.specs.Pieces.{Piece, load, fill, setting, four, bytesOf, Sendable, judgedOf}
 use Rattle.retries.proofs.Feeding.{none-refused-append, Goes}
 use Rattle.retries.proofs.Line.{running, word-accepted, word-again}
-use Rattle.retries.proofs.Taking.{begun-plain, taking, awaiting, load-begins, fill-begins, setting-begins}
+use Rattle.retries.proofs.Taking.{lastWord, begun-plain, taking, awaiting, load-begins, fill-begins, setting-begins}
 
 -- a command has a place
 pub record GrantedAt (judged : Judged) : Type 0 where
@@ -96,16 +97,16 @@ module _ (windows : List Window) (on : Bool) where
 
   pub piece-accepted : (begun : Bool) (register : ℕ) (m : List ℕ) → length m ≡ sumOf windows → (c : Piece) → Sendable c
       → NoneRefused (awaiting windows on begun register m) (bytesOf c) → GrantedAt (judgedOf windows c)
-  unfolding bytesOf wordStep fillDone settingDone
+  unfolding bytesOf wordStep pick fillDone settingDone
   piece-accepted begun register m lent (load address bytes pads) sendable n =
       load-not-refused _ address (length bytes) _ (judged-numbered windows (load address bytes pads))
-      (decides register (phase.LoadSize address) m (length bytes) (bytes ++ pads) lent (sendable .1)
+      (decides register (lastWord command.Load 0 0 address) m (length bytes) (bytes ++ pads) lent (sendable .1)
       (load-begins windows on begun register m lent address (sendable .0)) n)
   piece-accepted begun register m lent (fill address size kind pattern) sendable n =
       done-not-refused _ _ _ _ _ (judged-numbered windows (fill address size kind pattern))
-      (decides register (phase.FillPattern address size kind) m pattern [] lent (sendable .3)
+      (decides register (lastWord command.Fill address size kind) m pattern [] lent (sendable .3)
       (fill-begins windows on begun register m lent address size kind (sendable .0) (sendable .1) (sendable .2)) n)
   piece-accepted begun register m lent (setting word address value delay) sendable n =
       done-not-refused _ _ _ _ _ (judged-numbered windows (setting word address value delay))
-      (decides register (phase.SetDelay word address value) m delay [] lent (sendable .3)
+      (decides register (lastWord command.BootTable word address value) m delay [] lent (sendable .3)
       (setting-begins windows on begun register m lent word address value (sendable .0) (sendable .1) (sendable .2)) n)

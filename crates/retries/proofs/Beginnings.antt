@@ -1,6 +1,6 @@
 -- Where an attempt begins: after an Enable, a Request or a Start-Over that was taken as an opcode, since each puts the register to 0; and after the
 -- answered start word, since from the opening on the register is 0 until an opcode is acknowledged.
-use Prim.Native.Nat.{ℕ}
+use Prim.Native.Nat.{ℕ, _-_}
 use mathlib.Core.Bool.{Bool, true, false, not, _&&_, _||_, or-true, true≢false}
 use mathlib.Core.List.{List, [], _∷_}
 use mathlib.Core.Path.{_≡_, refl, sym, ap, ap₂, subst, _∙_}
@@ -13,6 +13,7 @@ use Rattle.words.specs.Choice.{pick}
 use Rattle.windows.specs.Window.{sumOf}
 use Rattle.windows.specs.declared.Window.{Window}
 use Rattle.script.specs.Opcodes.{rows, rowServes, foundIn, lookedUp}
+use Rattle.script.specs.declared.Command.{Command}
 use Rattle.script.specs.declared.Command.the-variants as command
 use Rattle.script.specs.declared.Found.{Found}
 use Rattle.script.specs.declared.Found.the-variants.{Known, Unknown}
@@ -24,10 +25,12 @@ use Rattle.commands.specs.declared.Judged.{Judged}
 use Rattle.commands.specs.declared.Judged.the-variants.{Granted, Refused}
 use Rattle.words.proofs.Choice.{of-choice}
 use Rattle.sent.specs.Line.{Outcome, plainly, gathered, carried, isStart, byteStep}
-use Rattle.sent.specs.Machine.{changed, stop, after, loadBegun, atOpcode, inPhase, wordStep}
+use Rattle.sent.specs.Machine as machine
+use Rattle.sent.specs.Machine.{stop, after, noneKept, loadBegun, performed, toward, begun, acknowledging, atOpcode, inPhase, wordStep}
 use Rattle.sent.specs.Opening.{openedBy}
-use Rattle.sent.specs.Replies.{startAnswer}
+use Rattle.sent.specs.Replies.{startAnswer, oneWord, wordThen}
 use Rattle.sent.specs.declared.Core.{Core}
+use Rattle.sent.specs.declared.Kept.{Kept}
 use Rattle.sent.specs.declared.Line.{Line}
 use Rattle.sent.specs.declared.Opened.{Opened}
 use Rattle.sent.specs.declared.Phase.{Phase}
@@ -76,24 +79,8 @@ opcode-begins x bs on a e =
     subst Begins (sym (ap (λ (y : State). fed y bs) (awaits-awaiting x a) ∙ e)) (rewound-begins _ on true (x .memory) (a .lent) (a .bytes))
 
 enable-begins : (x : State) → Awaits x → Begins (fed x (four enableOpcode))
-unfolding wordStep lookedUp foundIn rows rowServes pick byte
+unfolding wordStep lookedUp foundIn rows rowServes pick acknowledging oneWord wordThen byte
 enable-begins x a = opcode-begins x (four enableOpcode) true a (opcode-goes _ _ _ _ _ (a .lent) enableOpcode (lit< tt) refl refl .leads)
-
--- an opcode is acknowledged, and the session has begun; or it is refused, and the core is as it was but ended
-by-opcode : (P : Core → Type 0) (k : Core) (word : ℕ) → ((on : Bool) (register : ℕ) (awaited : Phase) → P (changed k (k .ended) on true register awaited)) → P (stop k)
-    → (found : Found) → P (atOpcode k word found .core)
-by-opcode P k word begun ended Unknown = ended
-by-opcode P k word begun ended (Known command.Load words) = begun _ _ _
-by-opcode P k word begun ended (Known command.Fill words) = begun _ _ _
-by-opcode P k word begun ended (Known command.BootTable words) = begun _ _ _
-by-opcode P k word begun ended (Known command.Enable words) = begun _ _ _
-by-opcode P k word begun ended (Known command.Disable words) = begun _ _ _
-by-opcode P k word begun ended (Known command.Request words) = begun _ _ _
-by-opcode P k word begun ended (Known command.StartOver words) = begun _ _ _
-by-opcode P k word begun ended (Known command.Jump words) = begun _ _ _
-by-opcode P k word begun ended (Known command.JumpAndClose words) = begun _ _ _
-by-opcode P k word begun ended (Known command.Ping words) = begun _ _ _
-by-opcode P k word begun ended (Known command.SequentialRead words) = ended
 
 -- a session that has begun stays so: one that has not after a word, had not before it
 abbrev NotBefore : Core → Core → Type 0
@@ -107,23 +94,41 @@ done-not-before : (k : Core) (done : Done) → NotBefore k (after k done .core)
 unfolding after
 done-not-before k done = of-choice (λ (t : Taken). NotBefore k (t .core)) _ (λ h e. e) (λ h e. e)
 
+performed-not-before : (c : Command) (k : Core) (m : List ℕ) (kept : Kept) (word : ℕ) → NotBefore k (performed c k m kept word .answer .core)
+performed-not-before command.Load k m kept word = load-not-before k (kept .third) word (loadJudged (k .windows) (kept .third) word)
+performed-not-before command.Fill k m kept word = done-not-before k _
+performed-not-before command.BootTable k m kept word = done-not-before k _
+performed-not-before command.Enable k m kept word = λ e. e
+performed-not-before command.Disable k m kept word = λ e. e
+performed-not-before command.Request k m kept word = λ e. e
+performed-not-before command.StartOver k m kept word = λ e. e
+performed-not-before command.Jump k m kept word = done-not-before k _
+performed-not-before command.JumpAndClose k m kept word = done-not-before k _
+performed-not-before command.Ping k m kept word = λ e. e
+performed-not-before command.SequentialRead k m kept word = λ e. e
+
+toward-not-before : (c : Command) (left : ℕ) (k : Core) (m : List ℕ) (kept : Kept) (word : ℕ) → NotBefore k (toward c left k m kept word .answer .core)
+toward-not-before c left k m kept word =
+    of-choice (λ (o : machine.Outcome). NotBefore k (o .answer .core)) _ (λ h. performed-not-before c k m kept word) (λ h e. e)
+
+acknowledged-core : (opcode : ℕ) (t : Taken) → acknowledging opcode t .core ≡ t .core
+unfolding acknowledging
+acknowledged-core opcode t = of-choice (λ (x : Taken). x .core ≡ t .core) _ (λ h. refl) (λ h. refl)
+
+-- an opcode that is acknowledged has begun the session; one that is not leaves the core as it was but ended
+by-opcode : (P : Core → Type 0) (k : Core) (m : List ℕ) (word : ℕ) → P (stop k) → (found : Found)
+    → atOpcode k m word found .answer .core .begun ≡ false → P (atOpcode k m word found .answer .core)
+by-opcode P k m word ended Unknown e = ended
+by-opcode P k m word ended (Known c words) e =
+    absurd
+    (true≢false (toward-not-before c words (begun k) m noneKept 0 (sym (ap (λ (x : Core). x .begun) (acknowledged-core word _)) ∙ e)))
+
 word-not-before : (p : Phase) (k : Core) (m : List ℕ) (word : ℕ) → NotBefore k (inPhase p k m word .answer .core)
-word-not-before phase.Opcode k m word = by-opcode (NotBefore k) k word (λ on register awaited e. absurd (true≢false e)) (λ e. e) (lookedUp word Sent)
-word-not-before phase.LoadAddress k m word = λ e. e
-word-not-before (phase.LoadSize address) k m word = load-not-before k address word (loadJudged (k .windows) address word)
+word-not-before phase.Opcode k m word =
+    λ e. by-opcode (λ later. later .begun ≡ false → k .begun ≡ false) k m word (λ e. e) (lookedUp word Sent) e e
+word-not-before (phase.Argument c left kept) k m word = toward-not-before c (left - 1) k m kept word
 word-not-before (phase.Data end left) k m word = λ e. e
-word-not-before phase.FillAddress k m word = λ e. e
-word-not-before (phase.FillSize address) k m word = λ e. e
-word-not-before (phase.FillType address size) k m word = λ e. e
-word-not-before (phase.FillPattern address size kind) k m word = done-not-before k _
-word-not-before phase.SetType k m word = λ e. e
-word-not-before (phase.SetAddress kind) k m word = λ e. e
-word-not-before (phase.SetData kind address) k m word = λ e. e
-word-not-before (phase.SetDelay kind address value) k m word = done-not-before k _
-word-not-before phase.JumpTo k m word = done-not-before k _
-word-not-before phase.CloseTo k m word = done-not-before k _
-word-not-before phase.PingCount k m word = λ e. e
-word-not-before (phase.PingWords n) k m word = λ e. e
+word-not-before (phase.Echo n) k m word = λ e. e
 
 -- register 0 and awaiting an opcode, as long as none is acknowledged
 abbrev Idle : Core → Type 0
@@ -134,11 +139,9 @@ word-idle : (k : Core) (m : List ℕ) (word : ℕ) → (k .begun ≡ false → I
 unfolding wordStep
 word-idle k m word idle e =
     let here = idle (word-not-before (k .stage .phase) k m word e) in
-    let opens : inPhase (k .stage .phase) k m word .answer .core ≡ atOpcode k word (lookedUp word Sent) .core =
+    let opens : inPhase (k .stage .phase) k m word .answer .core ≡ atOpcode k m word (lookedUp word Sent) .answer .core =
     ap (λ (p : Phase). inPhase p k m word .answer .core) (here .1) in
-    subst Idle (sym opens)
-    (by-opcode (λ (later : Core). later .begun ≡ false → Idle later) k word (λ on register awaited e. absurd (true≢false e)) (λ e. here) (lookedUp word Sent)
-    (sym (ap (λ (later : Core). later .begun) opens) ∙ e))
+    subst Idle (sym opens) (by-opcode Idle k m word here (lookedUp word Sent) (sym (ap (λ (later : Core). later .begun) opens) ∙ e))
 
 -- a session in which no opcode has been acknowledged: its register is 0, it awaits an opcode
 record Unbegun (x : State) : Type 0 where

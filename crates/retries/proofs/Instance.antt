@@ -17,7 +17,7 @@ use Rattle.windows.specs.Map.{soundWindow, allSound, rising, goodMap, keptOf}
 use Rattle.script.specs.Opcodes.{rows, rowServes, foundIn, lookedUp}
 use Rattle.commands.specs.Commands.{multiple, rangeJudged, loadJudged, loaded, fieldShape, shapeOf, unitJudged, settingDone, settingMemory}
 use Rattle.sent.specs.Line.{pushed, carried, isStart, byteStep}
-use Rattle.sent.specs.Machine.{after, awaited, wordStep}
+use Rattle.sent.specs.Machine.{after, awaited, acknowledging, wordStep}
 use Rattle.sent.specs.Opening.{openedBy}
 use Rattle.retries.specs.Example.{before, start, sent, abandoned, repeated, Worked, missing, OneBitMissed, middle, nothing, InTheMiddle, started, NothingFollows}
 use Rattle.retries.specs.Feeding.{State, Heard, register, fed, answers, NoneRefused}
@@ -74,7 +74,7 @@ computed : Computed
 unfolding bit join withField within byte number bytesAt put fits fieldFits fieldWritten pick checksum.shifted checksum.fedBit checksum.fed
     checksum.fedWords hasRight inside grantsRange placeFrom placeOf sumOf soundWindow allSound rising goodMap keptOf rows rowServes foundIn
     lookedUp multiple rangeJudged loadJudged loaded fieldShape shapeOf unitJudged settingDone settingMemory pushed carried isStart byteStep
-    after awaited wordStep openedBy start fed bytesOf allBytes answers middle started allSmall effectOf someWrites
+    after awaited acknowledging wordStep openedBy start fed bytesOf allBytes answers middle started allSmall effectOf someWrites
 computed = record {
   begins = record {
     awaits = record { running = refl; lent = refl; bytes = bytes-by before refl; started = refl; fresh = (refl, refl); opcode = refl };

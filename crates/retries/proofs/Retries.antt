@@ -11,7 +11,8 @@ use Rattle.words.specs.Choice.{pick}
 use Rattle.windows.specs.Window.{sumOf}
 use Rattle.windows.specs.declared.Window.{Window}
 use Rattle.script.specs.Opcodes.{rows, rowServes, foundIn, lookedUp}
-use Rattle.sent.specs.Machine.{wordStep}
+use Rattle.sent.specs.Machine.{acknowledging, wordStep}
+use Rattle.sent.specs.Replies.{oneWord, wordThen}
 use Rattle.retries.specs.Feeding.{State, Heard, register, fed, answers, NoneRefused}
 use Rattle.retries.specs.Pieces.{Piece, four, allBytes, AreBytes, AllSendable, Covers, requestOpcode, startOverOpcode}
 use Rattle.retries.specs.Retries.{Begins, Attempt, askingOpcode, attemptBytes, attemptsBytes, attemptsPieces, Reports, NoTrace, Retried, RetriesLeaveNoTrace, ManyRetriesLeaveNoTrace}
@@ -36,7 +37,7 @@ module _ (windows : List Window) (on : Bool) where
   -- a Request or none, and a Start-Over: the register is 0 and the session has begun
   closing-leads : (asked begun : Bool) (register : ℕ) (m : List ℕ) → length m ≡ sumOf windows
       → fed (awaiting windows on begun register m) (pick asked (four askingOpcode) [] ++ four startOverOpcode) ≡ awaiting windows on true 0 m
-  unfolding wordStep lookedUp foundIn rows rowServes pick byte
+  unfolding wordStep lookedUp foundIn rows rowServes pick acknowledging oneWord wordThen byte
   closing-leads true begun register m lent =
       (opcode-goes windows on begun register m lent askingOpcode (lit< tt) refl refl then start-over-goes windows on true _ m lent) .leads
   closing-leads false begun register m lent = start-over-goes windows on begun register m lent .leads

@@ -17,13 +17,15 @@ use Rattle.checksum.specs.Checksum as checksum
 use Rattle.windows.specs.Window.{sumOf}
 use Rattle.windows.specs.declared.Window.{Window}
 use Rattle.script.specs.Opcodes.{rows, rowServes, foundIn, lookedUp}
+use Rattle.script.specs.declared.Command.{Command}
+use Rattle.script.specs.declared.Command.the-variants as command
 use Rattle.script.specs.declared.Event.{Event}
 use Rattle.script.specs.declared.Event.the-variants.{Nothing, Wait}
 use Rattle.commands.specs.Commands.{loadJudged, loaded, fillDone, fillMemory, settingDone, settingMemory, memoryIf}
 use Rattle.commands.specs.declared.Judged.the-variants.{Granted}
 use Rattle.sent.specs.Line.{isStart}
-use Rattle.sent.specs.Machine.{awaited, after, wordStep}
-use Rattle.sent.specs.Replies.{silence, oneWord, twoWords, acknowledged}
+use Rattle.sent.specs.Machine.{noneKept, awaited, after, acknowledging, wordStep}
+use Rattle.sent.specs.Replies.{silence, oneWord, wordThen, acknowledged}
 use Rattle.sent.specs.declared.Core.{Core}
 use Rattle.sent.specs.declared.Phase.{Phase}
 use Rattle.sent.specs.declared.Phase.the-variants as phase
@@ -73,6 +75,10 @@ heardOf (load address bytes pads) = heardOpcode loadOpcode ++ heardQuiet ++ hear
 heardOf (fill address size kind pattern) = heardOpcode fillOpcode ++ heardQuiet ++ heardQuiet ++ heardQuiet ++ heardQuiet
 heardOf (setting word address value delay) =
     heardOpcode settingOpcode ++ heardQuiet ++ heardQuiet ++ heardQuiet ++ heardWord silence (Wait delay)
+
+-- the last argument word of a command is awaited, three words being kept
+abbrev pub lastWord : Command → ℕ → ℕ → ℕ → Phase
+lastWord c first second third = phase.Argument c 1 (record { first = first; second = second; third = third })
 
 -- once an opcode is acknowledged every byte can begin a word
 pub begun-plain : (windows : List Window) (on : Bool) (register : ℕ) (next : Phase) (b : ℕ) → Plain (running windows on true register next) b
@@ -183,43 +189,43 @@ module _ (windows : List Window) (on : Bool) where
         (ap (λ (t : Bool). t && not begun) other) (rw (word-again opcode small) e)
 
     -- those of a load, a fill and a setting, of Request and Start-Over
-    load-opcode : Goes (awaiting begun register m) (four loadOpcode) (taking register phase.LoadAddress m) (heardOpcode loadOpcode)
-    unfolding wordStep lookedUp foundIn rows rowServes pick byte
+    load-opcode : Goes (awaiting begun register m) (four loadOpcode) (taking register (phase.Argument command.Load 2 noneKept) m) (heardOpcode loadOpcode)
+    unfolding wordStep lookedUp foundIn rows rowServes pick acknowledging oneWord wordThen byte
     load-opcode = opcode-goes loadOpcode (lit< tt) refl refl
 
-    fill-opcode : Goes (awaiting begun register m) (four fillOpcode) (taking register phase.FillAddress m) (heardOpcode fillOpcode)
-    unfolding wordStep lookedUp foundIn rows rowServes pick byte
+    fill-opcode : Goes (awaiting begun register m) (four fillOpcode) (taking register (phase.Argument command.Fill 4 noneKept) m) (heardOpcode fillOpcode)
+    unfolding wordStep lookedUp foundIn rows rowServes pick acknowledging oneWord wordThen byte
     fill-opcode = opcode-goes fillOpcode (lit< tt) refl refl
 
-    setting-opcode : Goes (awaiting begun register m) (four settingOpcode) (taking register phase.SetType m) (heardOpcode settingOpcode)
-    unfolding wordStep lookedUp foundIn rows rowServes pick byte
+    setting-opcode : Goes (awaiting begun register m) (four settingOpcode) (taking register (phase.Argument command.BootTable 4 noneKept) m) (heardOpcode settingOpcode)
+    unfolding wordStep lookedUp foundIn rows rowServes pick acknowledging oneWord wordThen byte
     setting-opcode = opcode-goes settingOpcode (lit< tt) refl refl
 
-    pub request-goes : Goes (awaiting begun register m) (four requestOpcode) (awaiting true 0 m) (heardWord (twoWords (acknowledged requestOpcode) register) Nothing)
-    unfolding wordStep lookedUp foundIn rows rowServes pick byte
+    pub request-goes : Goes (awaiting begun register m) (four requestOpcode) (awaiting true 0 m) (heardWord (wordThen (acknowledged requestOpcode) (oneWord register)) Nothing)
+    unfolding wordStep lookedUp foundIn rows rowServes pick acknowledging oneWord wordThen byte
     request-goes = opcode-goes requestOpcode (lit< tt) refl refl
 
     pub start-over-goes : Goes (awaiting begun register m) (four startOverOpcode) (awaiting true 0 m) (heardOpcode startOverOpcode)
-    unfolding wordStep lookedUp foundIn rows rowServes pick byte
+    unfolding wordStep lookedUp foundIn rows rowServes pick acknowledging oneWord wordThen byte
     start-over-goes = opcode-goes startOverOpcode (lit< tt) refl refl
 
     -- up to the word that decides
     pub load-begins : (address : ℕ) → address < 2 ^ 32
-        → Goes (awaiting begun register m) (four loadOpcode ++ four address) (taking register (phase.LoadSize address) m) (heardOpcode loadOpcode ++ heardQuiet)
-    unfolding wordStep
+        → Goes (awaiting begun register m) (four loadOpcode ++ four address) (taking register (lastWord command.Load 0 0 address) m) (heardOpcode loadOpcode ++ heardQuiet)
+    unfolding wordStep pick
     load-begins address h = load-opcode then argument-goes m lent address h refl
 
     pub fill-begins : (address size kind : ℕ) → address < 2 ^ 32 → size < 2 ^ 32 → kind < 2 ^ 32
         → Goes (awaiting begun register m) (four fillOpcode ++ four address ++ four size ++ four kind)
-        (taking register (phase.FillPattern address size kind) m) (heardOpcode fillOpcode ++ heardQuiet ++ heardQuiet ++ heardQuiet)
-    unfolding wordStep
+        (taking register (lastWord command.Fill address size kind) m) (heardOpcode fillOpcode ++ heardQuiet ++ heardQuiet ++ heardQuiet)
+    unfolding wordStep pick
     fill-begins address size kind address< size< kind< =
         fill-opcode then argument-goes m lent address address< refl then argument-goes m lent size size< refl then argument-goes m lent kind kind< refl
 
     pub setting-begins : (word address value : ℕ) → word < 2 ^ 32 → address < 2 ^ 32 → value < 2 ^ 32
         → Goes (awaiting begun register m) (four settingOpcode ++ four word ++ four address ++ four value)
-        (taking register (phase.SetDelay word address value) m) (heardOpcode settingOpcode ++ heardQuiet ++ heardQuiet ++ heardQuiet)
-    unfolding wordStep
+        (taking register (lastWord command.BootTable word address value) m) (heardOpcode settingOpcode ++ heardQuiet ++ heardQuiet ++ heardQuiet)
+    unfolding wordStep pick
     setting-begins word address value word< address< value< =
         setting-opcode then argument-goes m lent word word< refl then argument-goes m lent address address< refl
         then argument-goes m lent value value< refl

@@ -8,7 +8,7 @@ use Rattle.words.specs.Choice.{pick}
 use Rattle.windows.specs.Window.{sumOf}
 use Rattle.windows.specs.declared.Window.{Window}
 use Rattle.sent.specs.Opening.{openedBy}
-use Rattle.sent.specs.Replies.{startAnswer, silence, twoWords, acknowledged}
+use Rattle.sent.specs.Replies.{startAnswer, silence, oneWord, wordThen, acknowledged}
 use Rattle.sent.specs.declared.Phase.the-variants.{Opcode}
 use Rattle.retries.specs.Feeding.{State, Heard, register, next, heard, fed, answers, NoneRefused}
 use Rattle.retries.specs.Pieces.{Piece, four, allBytes, AreBytes, AllSendable, Covers, enableOpcode, requestOpcode, startOverOpcode}
@@ -72,7 +72,7 @@ attemptsPieces (a ∷ rest) = a .pieces ++ attemptsPieces rest
 -- a Request is answered by its acknowledgement and a number
 abbrev pub Reports : State → ℕ → Type 0
 Reports x number =
-    map (λ (h : Heard). h .reply) (answers x (four requestOpcode)) ≡ silence ∷ silence ∷ silence ∷ twoWords (acknowledged requestOpcode) number ∷ []
+    map (λ (h : Heard). h .reply) (answers x (four requestOpcode)) ≡ silence ∷ silence ∷ silence ∷ wordThen (acknowledged requestOpcode) (oneWord number) ∷ []
 
 -- some bytes leave no trace once others follow: memory, register and the whole session are those of the others alone, and so is every answer from
 -- there on, also to any further bytes; a Request that comes next reports that register

@@ -1,13 +1,17 @@
--- A search of the opcode table: what the rows from a place on answer, by whether the row at that place serves.
+-- A search of the opcode table: what the rows from a place on answer, by whether the row at that place serves. What is found is one of the rows, so that
+-- what a test says of each row holds of it.
 use Prim.Native.Nat.{ℕ, _+_, _<_}
-use mathlib.Core.Bool.{true, false}
-use mathlib.Core.List.{List}
-use mathlib.Core.Path.{_≡_}
+use mathlib.Core.Bool.{Bool, true, false, not, _&&_, _||_, false≢true}
+use mathlib.Core.List.{List, [], _∷_}
+use mathlib.Core.Path.{_≡_, sym, _∙_}
 use native.Mathlib.Numerals.{add-one}
+use native.Mathlib.Omega.{arith}
+use lib.Dec.{eqb}
 use lib.ListN.{length, getD, drop}
 use lib.Seq.{drop-cons}
-use Rattle.words.proofs.Choice.{chosen, passed}
-use Rattle.script.specs.Opcodes.{rowServes, foundIn}
+use Rattle.words.proofs.Choice.{chosen, passed, by-test, both}
+use Rattle.script.specs.Opcodes.{allowed, rowServes, foundIn}
+use Rattle.script.specs.declared.Command.{Command}
 use Rattle.script.specs.declared.Mode.{Mode}
 use Rattle.script.specs.declared.Row.{Row}
 use Rattle.script.specs.declared.Found.the-variants.{Known}
@@ -22,3 +26,32 @@ module _ (rows : List Row) (opcode : ℕ) (mode : Mode) (i : ℕ) (other : Row) 
       → foundIn (drop i rows) opcode mode ≡ foundIn (drop (i + 1) rows) opcode mode
   unfolding foundIn
   found-later e = rw (drop-cons rows i other h, add-one) (passed _ _ _ e)
+
+-- a row that serves is one that the mode allows
+serves-allowed : (row : Row) (opcode : ℕ) (mode : Mode) → rowServes row opcode mode ≡ true → allowed row mode ≡ true
+unfolding rowServes
+serves-allowed row opcode mode e = both (eqb (row .opcode) opcode) (allowed row mode) e .1
+
+-- a test of every row that a mode allows
+unfoldable pub everyRow : Mode → (Command → ℕ → Bool) → List Row → Bool
+everyRow mode test [] = true
+everyRow mode test (row ∷ rest) = (not (allowed row mode) || test (row .command) (row .words)) && everyRow mode test rest
+
+-- what every row passes, a row that is found passes
+pub found-passes : (mode : Mode) (test : Command → ℕ → Bool) (rows : List Row) (opcode : ℕ) (command : Command) (words : ℕ)
+    → everyRow mode test rows ≡ true → foundIn rows opcode mode ≡ Known command words → test command words ≡ true
+unfolding everyRow foundIn
+found-passes mode test [] opcode command words every found = let z : _≡_ {A = ℕ} 0 1 = cc in absurd (omega arith)
+found-passes mode test (row ∷ rest) opcode command words every found =
+    let parts = both (not (allowed row mode) || test (row .command) (row .words)) (everyRow mode test rest) every in
+    by-test (rowServes row opcode mode)
+    (λ serves.
+    let here : Known (row .command) (row .words) ≡ Known command words = sym (chosen _ _ _ serves) ∙ found in
+    let same-command : row .command ≡ command = cc in
+    let same-words : row .words ≡ words = cc in
+    rw (← same-command, ← same-words) (allowed-passes (allowed row mode) (test (row .command) (row .words)) (serves-allowed row opcode mode serves) (parts .0)))
+    (λ other. found-passes mode test rest opcode command words (parts .1) (sym (passed _ _ _ other) ∙ found))
+  where
+    allowed-passes : (a t : Bool) → a ≡ true → (not a || t) ≡ true → t ≡ true
+    allowed-passes true t e h = h
+    allowed-passes false t e h = absurd (false≢true e)

@@ -2,10 +2,11 @@
 use Prim.Native.Nat.{ℕ, _+_, _≤_, _<_}
 use mathlib.Core.Bool.{Bool, true, false, not, _&&_, _||_}
 use mathlib.Core.List.{List, []}
-use mathlib.Core.Path.{_≡_, refl, ap, ap₂, _∙_}
+use mathlib.Core.Path.{_≡_, refl, sym, ap, ap₂, _∙_}
 use lib.Dec.{eqb}
 use lib.ListN.{length}
 use borrow.Author.Tests.{lt-ltb, le-ltb, eq-eqb, ne-eqb}
+use Rattle.words.specs.Choice.{pick}
 use Rattle.words.proofs.Choice.{chosen, passed}
 use Rattle.windows.specs.Window.{placeOf, sumOf}
 use Rattle.windows.specs.declared.Place.{Place}
@@ -16,11 +17,20 @@ use Rattle.windows.proofs.Laws.{placed-inside}
 use Rattle.commands.specs.Commands.{placed, rangeJudged, loadJudged}
 use Rattle.commands.specs.declared.Judged.the-variants.{Granted}
 use native.Mathlib.Omega.{arith}
+use Rattle.script.specs.Opcodes.{lookedUp}
+use Rattle.script.specs.declared.Found.{Found}
+use Rattle.script.specs.declared.Found.the-variants.{Known, Unknown}
+use Rattle.script.specs.declared.Mode.the-variants.{Sent}
 use Rattle.script.specs.declared.Refusal.the-variants as refusal
 use Rattle.sent.specs.Line.{Outcome, pushed, plainly, gathered, carried, isStart, byteStep}
 use Rattle.sent.specs.Machine as machine
-use Rattle.sent.specs.Machine.{_leaving_, wordStep}
+use Rattle.sent.specs.Machine.{_leaving_, atOpcode, inPhase, wordStep}
+use Rattle.sent.specs.Purpose.{opcodePurpose, purposeOf, served}
 use Rattle.sent.specs.Replies.{silence, startAnswer}
+use Rattle.sent.specs.declared.Core.{Core}
+use Rattle.sent.specs.declared.Phase.{Phase}
+use Rattle.sent.specs.declared.Phase.the-variants as phase
+use Rattle.sent.specs.declared.Purpose.{Purpose}
 use Rattle.sent.specs.declared.Session.{Session}
 
 -- the answer on the line needs only the word's answer, and the memory is the word's
@@ -32,6 +42,30 @@ module _ (s : Session) (o : machine.Outcome) where
   pub carried-memory : o .memory ≡ carried s o .memory
   unfolding carried
   carried-memory = refl
+
+-- a word taken for its purpose is the word in its phase
+opcode-served : (k : Core) (m : List ℕ) (word : ℕ) (f : Found) → served (opcodePurpose f) k m word ≡ atOpcode k m word f
+unfolding pick
+opcode-served k m word Unknown = refl
+opcode-served k m word (Known command words) = refl
+
+pub purpose-served : (p : Phase) (k : Core) (m : List ℕ) (word : ℕ) → served (purposeOf p word) k m word ≡ inPhase p k m word
+unfolding pick
+purpose-served phase.Opcode k m word = opcode-served k m word (lookedUp word Sent)
+purpose-served (phase.Argument command left kept) k m word = refl
+purpose-served (phase.Data end left) k m word = refl
+purpose-served (phase.Echo n) k m word = refl
+
+module _ (k : Core) (m : List ℕ) (word : ℕ) {p : Purpose} (known : purposeOf (k .stage .phase) word ≡ p) where
+  served-word : served p k m word ≡ wordStep k m word
+  unfolding wordStep
+  served-word = sym (ap (λ (x : Purpose). served x k m word) known) ∙ purpose-served (k .stage .phase) k m word
+
+  pub served-answer : served p k m word .answer ≡ wordStep k m word .answer
+  served-answer = ap (λ (o : machine.Outcome). o .answer) served-word
+
+  pub served-memory : served p k m word .memory ≡ wordStep k m word .memory
+  served-memory = ap (λ (o : machine.Outcome). o .memory) served-word
 
 -- the start word: no other byte; before the first; inside a word; again where a word would begin
 module _ (s : Session) (b : ℕ) where

@@ -15,12 +15,15 @@ use Rattle.words.specs.Choice.{pick}
 use Rattle.words.proofs.Choice.{chosen, passed}
 use Rattle.words.proofs.WrittenBits.{bit-byte, bit-number}
 use Rattle.checksum.specs.Checksum.{fedBit, fed, fedWords}
+use Rattle.script.specs.declared.Command.the-variants as command
 use Rattle.commands.specs.Commands.{loadJudged, loaded, wordsFed, loadFed}
 use Rattle.commands.specs.declared.Judged.{Judged}
 use Rattle.commands.specs.declared.Judged.the-variants.{Granted}
 use Rattle.sent.specs.Line.{pushed}
-use Rattle.sent.specs.Machine.{Outcome, await, quiet, _leaving_, awaited, loadBegun, dataBytes, inPhase, wordStep}
+use Rattle.sent.specs.Machine.{Outcome, await, quiet, _leaving_, awaited, loadBegun, dataBytes, performed, inPhase, wordStep}
+use Rattle.sent.specs.Words.{afterWords}
 use Rattle.sent.specs.declared.Core.{Core}
+use Rattle.sent.specs.declared.Kept.{Kept}
 use Rattle.sent.specs.declared.Phase.{Phase}
 use Rattle.sent.specs.declared.Phase.the-variants as phase
 
@@ -29,15 +32,6 @@ pub four-pushes : (w a b c d : ℕ) → w < 2 ^ 32 → a < 256 → b < 256 → c
     → pushed (pushed (pushed (pushed w a) b) c) d ≡ number (a ∷ b ∷ c ∷ d ∷ [])
 unfolding pushed number join
 four-pushes w a b c d w< a< b< c< d< = omega arith
-
--- the core and the memory that words leave, one after the other
-unfoldable pub coreAfter : Core → List ℕ → List ℕ → Core
-coreAfter k m [] = k
-coreAfter k m (w ∷ ws) = coreAfter (wordStep k m w .answer .core) (wordStep k m w .memory) ws
-
-unfoldable pub memoryAfter : Core → List ℕ → List ℕ → List ℕ
-memoryAfter k m [] = m
-memoryAfter k m (w ∷ ws) = memoryAfter (wordStep k m w .answer .core) (wordStep k m w .memory) ws
 
 -- the bytes of words, lowest first
 abbrev pub bytesOf : List ℕ → List ℕ
@@ -155,28 +149,21 @@ awaited-none end = chosen _ _ _ (eq-eqb 0 0 refl)
 
 -- the data of a load sent word by word: the bytes are those of the whole load, and so is what they feed
 pub pieces : (ws : List ℕ) (k : Core) (m : List ℕ) (p n : ℕ) → k .stage .phase ≡ awaited (p + n) n → length ws ≡ (n + 3) / 4
-    → (coreAfter k m ws
-    ≡ await k (pick (k .on) (wordsFed (k .tally .register) ((n + 3) / 4) (take n (bytesOf ws))) (k .tally .register)) phase.Opcode)
-    × (memoryAfter k m ws ≡ loaded m p (take n (bytesOf ws)))
-unfolding coreAfter memoryAfter loaded put
+    → afterWords (quiet k leaving m) ws
+    ≡ quiet (await k (pick (k .on) (wordsFed (k .tally .register) ((n + 3) / 4) (take n (bytesOf ws))) (k .tally .register)) phase.Opcode)
+    leaving loaded m p (take n (bytesOf ws))
+unfolding afterWords loaded put
 pieces [] k m p zero at whole =
-    (ap₂ (λ (r : ℕ) (x : Phase). await k r x) (fed-none (k .on) (k .tally .register)) (at ∙ awaited-none (p + 0)), refl)
+    ap₂ (λ (r : ℕ) (x : Phase). quiet (await k r x) leaving m) (fed-none (k .on) (k .tally .register)) (at ∙ awaited-none (p + 0))
 pieces [] k m p (suc n) at whole = absurd (omega arith)
 pieces (w ∷ ws) k m p n at whole =
     let more : 0 < n = omega arith in
     let end : p + n ≡ p + length (dataBytes w n) + (n - 4) = omega (arith, data-length w n) in
-    let step = data-step k m p n w more at in
     let next = await k (pick (k .on) (fed (k .tally .register) w (8 * min n 4)) (k .tally .register)) (awaited (p + n) (n - 4)) in
-    let rest =
-    pieces ws next (loaded m p (dataBytes w n)) (p + length (dataBytes w n)) (n - 4) (ap (λ (e : ℕ). awaited e (n - 4)) end) (omega arith) in (
-      ap (λ (o : Outcome). coreAfter (o .answer .core) (o .memory) ws) step
-          ∙ rest .0
-          ∙ ap (λ (r : ℕ). await k r phase.Opcode) (fed-next (k .on) (k .tally .register) n w ws more),
-      ap (λ (o : Outcome). memoryAfter (o .answer .core) (o .memory) ws) step
-          ∙ rest .1
-          ∙ loaded-append m p (dataBytes w n) (take (n - 4) (bytesOf ws))
-          ∙ ap (loaded m p) (all-bytes n w ws),
-    )
+    ap (λ (o : Outcome). afterWords o ws) (data-step k m p n w more at)
+    ∙ pieces ws next (loaded m p (dataBytes w n)) (p + length (dataBytes w n)) (n - 4) (ap (λ (e : ℕ). awaited e (n - 4)) end) (omega arith)
+    ∙ ap₂ (λ (r : ℕ) (left : List ℕ). quiet (await k r phase.Opcode) leaving left) (fed-next (k .on) (k .tally .register) n w ws more)
+    (loaded-append m p (dataBytes w n) (take (n - 4) (bytesOf ws)) ∙ ap (loaded m p) (all-bytes n w ws))
 
 -- words have four bytes each
 bytes-length : (ws : List ℕ) → length (bytesOf ws) ≡ 4 * length ws
@@ -191,22 +178,17 @@ unfolding pick loadFed
 load-fed true r address n bytes e = ap (λ (x : ℕ). wordsFed (fedWords r (address ∷ x ∷ [])) ((x + 3) / 4) bytes) (sym e)
 load-fed false r address n bytes e = refl
 
--- a load from its size word on: to register and memory it does what the whole load does
-pub load-in-pieces : (k : Core) (m : List ℕ) (address size place : ℕ) (ws : List ℕ)
-    → k .stage .phase ≡ phase.LoadSize address → loadJudged (k .windows) address size ≡ Granted place → length ws ≡ (size + 3) / 4
-    → (coreAfter k m (size ∷ ws)
-    ≡ await k (pick (k .on) (loadFed (k .tally .register) address (take size (bytesOf ws))) (k .tally .register)) phase.Opcode)
-    × (memoryAfter k m (size ∷ ws) ≡ loaded m place (take size (bytesOf ws)))
-unfolding coreAfter memoryAfter wordStep
-load-in-pieces k m address size place ws at granted whole =
+-- a load that is granted at its size word, with its data: to register and memory it does what the whole load does
+pub load-in-pieces : (k : Core) (m : List ℕ) (kept : Kept) (size place : ℕ) (ws : List ℕ)
+    → loadJudged (k .windows) (kept .third) size ≡ Granted place → length ws ≡ (size + 3) / 4
+    → afterWords (performed command.Load k m kept size) ws
+    ≡ quiet (await k (pick (k .on) (loadFed (k .tally .register) (kept .third) (take size (bytesOf ws))) (k .tally .register)) phase.Opcode)
+    leaving loaded m place (take size (bytesOf ws))
+load-in-pieces k m kept size place ws granted whole =
+    let address : ℕ = kept .third in
     let r : ℕ = k .tally .register in
-    let step : wordStep k m size ≡ loadBegun k address size (Granted place) leaving m =
-    ap (λ (x : Phase). inPhase x k m size) at ∙ ap (λ (j : Judged). loadBegun k address size j leaving m) granted in
     let next = await k (pick (k .on) (fedWords r (address ∷ size ∷ [])) r) (awaited (place + size) size) in
-    let rest = pieces ws next m place size refl whole in
-    let count : length (take size (bytesOf ws)) ≡ size = length-take-le size (bytesOf ws) (omega (arith, bytes-length ws)) in (
-      ap (λ (o : Outcome). coreAfter (o .answer .core) (o .memory) ws) step
-          ∙ rest .0
-          ∙ ap (λ (x : ℕ). await k x phase.Opcode) (load-fed (k .on) r address size _ count),
-      ap (λ (o : Outcome). memoryAfter (o .answer .core) (o .memory) ws) step ∙ rest .1,
-    )
+    let count : length (take size (bytesOf ws)) ≡ size = length-take-le size (bytesOf ws) (omega (arith, bytes-length ws)) in
+    ap (λ (j : Judged). afterWords (loadBegun k address size j leaving m) ws) granted
+    ∙ pieces ws next m place size refl whole
+    ∙ ap (λ (x : ℕ). quiet (await k x phase.Opcode) leaving loaded m place (take size (bytesOf ws))) (load-fed (k .on) r address size _ count)

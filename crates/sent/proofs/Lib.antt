@@ -1,2 +1,3 @@
+pub mod ByTheTable
 pub mod Cases
 pub mod Laws

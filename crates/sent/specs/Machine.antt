@@ -11,7 +11,6 @@ use Rattle.script.specs.Answers.{numberOf}
 use Rattle.script.specs.Opcodes.{lookedUp}
 use Rattle.script.specs.declared.Command.{Command}
 use Rattle.script.specs.declared.Command.the-variants as command
-use Rattle.script.specs.declared.Event.{Event}
 use Rattle.script.specs.declared.Event.the-variants.{Nothing}
 use Rattle.script.specs.declared.Found.{Found}
 use Rattle.script.specs.declared.Found.the-variants.{Known, Unknown}
@@ -22,8 +21,9 @@ use Rattle.commands.specs.Commands.{loadJudged, loaded, fillDone, fillMemory, s
 use Rattle.commands.specs.declared.Done.{Done}
 use Rattle.commands.specs.declared.Judged.{Judged}
 use Rattle.commands.specs.declared.Judged.the-variants.{Granted, Refused}
-use Rattle.sent.specs.Replies.{silence, oneWord, twoWords, acknowledged}
+use Rattle.sent.specs.Replies.{silence, oneWord, wordThen, acknowledged}
 use Rattle.sent.specs.declared.Core.{Core}
+use Rattle.sent.specs.declared.Kept.{Kept}
 use Rattle.sent.specs.declared.Phase.{Phase}
 use Rattle.sent.specs.declared.Phase.the-variants as phase
 use Rattle.sent.specs.declared.Reply.{Reply}
@@ -74,29 +74,13 @@ after k done =
 abbrev pub entered : Taken → Taken
 entered t = record { refusal = t .refusal; reply = t .reply; event = t .event; core = stop (t .core) }
 
--- an opcode is acknowledged, and the session has begun
-abbrev pub acknowledges : Core → ℕ → Bool → ℕ → Phase → Taken
-acknowledges k opcode on register next = said (oneWord (acknowledged opcode)) (changed k (k .ended) on true register next)
+-- no argument word of a command has come yet
+abbrev pub noneKept : Kept
+noneKept = record { first = 0; second = 0; third = 0 }
 
--- an opcode taken: what it switches at once, and the word that it awaits
-abbrev pub opcodeTaken : Core → ℕ → Command → Taken
-opcodeTaken k opcode command.Load = acknowledges k opcode (k .on) (k .tally .register) phase.LoadAddress
-opcodeTaken k opcode command.Fill = acknowledges k opcode (k .on) (k .tally .register) phase.FillAddress
-opcodeTaken k opcode command.BootTable = acknowledges k opcode (k .on) (k .tally .register) phase.SetType
-opcodeTaken k opcode command.Enable = acknowledges k opcode true 0 phase.Opcode
-opcodeTaken k opcode command.Disable = acknowledges k opcode false (k .tally .register) phase.Opcode
-opcodeTaken k opcode command.Request =
-    said (twoWords (acknowledged opcode) (k .tally .register)) (changed k (k .ended) (k .on) true 0 phase.Opcode)
-opcodeTaken k opcode command.StartOver = acknowledges k opcode (k .on) 0 phase.Opcode
-opcodeTaken k opcode command.Jump = acknowledges k opcode (k .on) (k .tally .register) phase.JumpTo
-opcodeTaken k opcode command.JumpAndClose = acknowledges k opcode (k .on) (k .tally .register) phase.CloseTo
-opcodeTaken k opcode command.Ping = acknowledges k opcode (k .on) (k .tally .register) phase.PingCount
-opcodeTaken k opcode command.SequentialRead = refused k refusal.Opcode
-
--- 6 for an opcode that the table does not allow in sent mode
-abbrev pub atOpcode : Core → ℕ → Found → Taken
-atOpcode k opcode Unknown = refused k refusal.Opcode
-atOpcode k opcode (Known command words) = opcodeTaken k opcode command
+-- one more has: the last three are kept, each new one shifted in
+abbrev pub keeping : Kept → ℕ → Kept
+keeping kept word = record { first = kept .second; second = kept .third; third = word }
 
 -- the bytes that are left of a load's data, up to the place past its range
 unfoldable pub awaited : ℕ → ℕ → Phase
@@ -114,30 +98,60 @@ dataBytes word left = take left (byte word 0 ∷ byte word 1 ∷ byte word 2 ∷
 
 -- words to echo
 unfoldable pub echoing : ℕ → Phase
-echoing n = pick (eqb n 0) phase.Opcode (phase.PingWords n)
+echoing n = pick (eqb n 0) phase.Opcode (phase.Echo n)
+
+-- what a command does with its words: those kept, and the last; what the table allows in flash mode only is 6
+abbrev pub performed : Command → Core → List ℕ → Kept → ℕ → Outcome
+performed command.Load k m kept word = loadBegun k (kept .third) word (loadJudged (k .windows) (kept .third) word) leaving m
+performed command.Fill k m kept word =
+    after k (fillDone (k .windows) (k .on) (k .tally .register) (kept .first) (kept .second) (kept .third) word)
+    leaving fillMemory (k .windows) m (kept .first) (kept .second) (kept .third) word
+performed command.BootTable k m kept word =
+    after k (settingDone (k .windows) (k .tally .register) (kept .first) (kept .second) word)
+    leaving settingMemory (k .windows) m (kept .first) (kept .second) (kept .third)
+performed command.Enable k m kept word = quiet (changed k (k .ended) true (k .begun) 0 phase.Opcode) leaving m
+performed command.Disable k m kept word = quiet (changed k (k .ended) false (k .begun) (k .tally .register) phase.Opcode) leaving m
+performed command.Request k m kept word = said (oneWord (k .tally .register)) (await k 0 phase.Opcode) leaving m
+performed command.StartOver k m kept word = quiet (await k 0 phase.Opcode) leaving m
+performed command.Jump k m kept word = after k (jumpDone (k .windows) (k .tally .register) word) leaving m
+performed command.JumpAndClose k m kept word = entered (after k (closeDone (k .windows) (k .tally .register) word)) leaving m
+performed command.Ping k m kept word = said (oneWord word) (await k (k .tally .register) (echoing word)) leaving m
+performed command.SequentialRead k m kept word = refused k refusal.Opcode leaving m
+
+-- a command with so many words to come: with none it is done, else the next is awaited and this one kept
+abbrev pub toward : Command → ℕ → Core → List ℕ → Kept → ℕ → Outcome
+toward command left k m kept word =
+    pick (eqb left 0) (performed command k m kept word)
+    (quiet (await k (k .tally .register) (phase.Argument command left (keeping kept word))) leaving m)
+
+-- what an opcode does for all: the session has begun
+abbrev pub begun : Core → Core
+begun k = changed k (k .ended) (k .on) true (k .tally .register) (k .stage .phase)
+
+-- and where it is accepted, its acknowledgement comes before all else that is said
+unfoldable pub acknowledging : ℕ → Taken → Taken
+acknowledging opcode t =
+    pick (eqb (numberOf (t .refusal)) 0)
+    (record { refusal = t .refusal; reply = wordThen (acknowledged opcode) (t .reply); event = t .event; core = t .core })
+    t
+
+-- so of an outcome; the memory is the command's
+abbrev pub opening : ℕ → Outcome → Outcome
+opening opcode o = acknowledging opcode (o .answer) leaving o .memory
+
+-- an opcode, by what the table says of it: 6, or a command with as many words to come as its row has
+abbrev pub atOpcode : Core → List ℕ → ℕ → Found → Outcome
+atOpcode k m opcode Unknown = refused k refusal.Opcode leaving m
+atOpcode k m opcode (Known command words) = opening opcode (toward command words (begun k) m noneKept 0)
 
 -- a whole word, by the phase that awaits it
 abbrev pub inPhase : Phase → Core → List ℕ → ℕ → Outcome
-inPhase phase.Opcode k m word = atOpcode k word (lookedUp word Sent) leaving m
-inPhase phase.LoadAddress k m word = quiet (await k (k .tally .register) (phase.LoadSize word)) leaving m
-inPhase (phase.LoadSize address) k m word = loadBegun k address word (loadJudged (k .windows) address word) leaving m
+inPhase phase.Opcode k m word = atOpcode k m word (lookedUp word Sent)
+inPhase (phase.Argument command left kept) k m word = toward command (left - 1) k m kept word
 inPhase (phase.Data end left) k m word =
     quiet (await k (pick (k .on) (fed (k .tally .register) word (8 * min left 4)) (k .tally .register)) (awaited end (left - 4)))
     leaving loaded m (end - left) (dataBytes word left)
-inPhase phase.FillAddress k m word = quiet (await k (k .tally .register) (phase.FillSize word)) leaving m
-inPhase (phase.FillSize address) k m word = quiet (await k (k .tally .register) (phase.FillType address word)) leaving m
-inPhase (phase.FillType address size) k m word = quiet (await k (k .tally .register) (phase.FillPattern address size word)) leaving m
-inPhase (phase.FillPattern address size kind) k m word =
-    after k (fillDone (k .windows) (k .on) (k .tally .register) address size kind word) leaving fillMemory (k .windows) m address size kind word
-inPhase phase.SetType k m word = quiet (await k (k .tally .register) (phase.SetAddress word)) leaving m
-inPhase (phase.SetAddress kind) k m word = quiet (await k (k .tally .register) (phase.SetData kind word)) leaving m
-inPhase (phase.SetData kind address) k m word = quiet (await k (k .tally .register) (phase.SetDelay kind address word)) leaving m
-inPhase (phase.SetDelay kind address value) k m word =
-    after k (settingDone (k .windows) (k .tally .register) kind address word) leaving settingMemory (k .windows) m kind address value
-inPhase phase.JumpTo k m word = after k (jumpDone (k .windows) (k .tally .register) word) leaving m
-inPhase phase.CloseTo k m word = entered (after k (closeDone (k .windows) (k .tally .register) word)) leaving m
-inPhase phase.PingCount k m word = said (oneWord word) (await k (k .tally .register) (echoing word)) leaving m
-inPhase (phase.PingWords n) k m word = said (oneWord word) (await k (k .tally .register) (echoing (n - 1))) leaving m
+inPhase (phase.Echo n) k m word = said (oneWord word) (await k (k .tally .register) (echoing (n - 1))) leaving m
 
 -- the machine: a core, a memory and a word
 unfoldable pub wordStep : Core → List ℕ → ℕ → Outcome

@@ -1,7 +1,7 @@
--- Replies: none, the answer to a start word, one word, or two.
-use Prim.Native.Nat.{ℕ, _+_, _*_, _%_, _^_}
+-- Replies: none, the answer to a start word, a word, or a word and another after it.
+use Prim.Native.Nat.{ℕ, _+_, _*_, _%_, _^_, min}
 use mathlib.Core.List.{List, [], _∷_}
-use lib.ListN.{take}
+use lib.ListN.{getD, take}
 use Rattle.words.specs.Bytes.{byte}
 use Rattle.sent.specs.declared.Reply.{Reply}
 
@@ -17,10 +17,13 @@ startAnswer = record { bytes = 0x52 ∷ 0 ∷ 0 ∷ 0 ∷ 0 ∷ 0 ∷ 0 ∷ 0 �
 unfoldable pub oneWord : ℕ → Reply
 oneWord v = record { bytes = byte v 0 ∷ byte v 1 ∷ byte v 2 ∷ byte v 3 ∷ 0 ∷ 0 ∷ 0 ∷ 0 ∷ []; count = 4 }
 
--- two words
-unfoldable pub twoWords : ℕ → ℕ → Reply
-twoWords v w =
-    record { bytes = byte v 0 ∷ byte v 1 ∷ byte v 2 ∷ byte v 3 ∷ byte w 0 ∷ byte w 1 ∷ byte w 2 ∷ byte w 3 ∷ []; count = 8 }
+-- a word, and after it the first word of what else is said
+unfoldable pub wordThen : ℕ → Reply → Reply
+wordThen v r =
+    record {
+      bytes = byte v 0 ∷ byte v 1 ∷ byte v 2 ∷ byte v 3 ∷ getD (r .bytes) 0 0 ∷ getD (r .bytes) 1 0 ∷ getD (r .bytes) 2 0 ∷ getD (r .bytes) 3 0 ∷ [];
+      count = 4 + min (r .count) 4;
+    }
 
 -- an opcode is acknowledged by itself with top byte 0x52
 unfoldable pub acknowledged : ℕ → ℕ

@@ -22,18 +22,22 @@ ghost use Rattle.sent.specs.Machine.{
   _leaving_,
   after,
   entered,
-  acknowledges,
-  opcodeTaken,
-  atOpcode,
+  noneKept,
+  keeping,
   awaited,
   loadBegun,
   dataBytes,
   echoing,
+  performed,
+  toward,
+  begun,
+  acknowledging,
   inPhase,
   wordStep,
 };
 ghost use Rattle.sent.specs.Opening.{atStart, openedBy};
-ghost use Rattle.sent.specs.Replies.{silence, startAnswer, oneWord, twoWords, acknowledged};
+ghost use Rattle.sent.specs.Purpose.{opcodePurpose, purposeOf, served};
+ghost use Rattle.sent.specs.Replies.{silence, startAnswer, oneWord, wordThen, acknowledged};
 use commands::Done;
 use commands::Judged;
 use script::Command;
@@ -48,24 +52,28 @@ pub struct Tally {
     pub register: u32,
 }
 
-// What the word machine awaits next, with what it needs to know then. Data: the place past the range, and the bytes left.
+// The last three argument words of a command that came before its last, the latest third.
+pub struct Kept {
+    pub first: u32,
+    pub second: u32,
+    pub third: u32,
+}
+
+// What the word machine awaits next, with what it needs to know then. Argument: of which command, how many are left, and those kept. Data: the place past
+// the range, and the bytes left. Echo: how many words are left.
 pub enum Phase {
     Opcode,
-    LoadAddress,
-    LoadSize(u32),
+    Argument(Command, u32, Kept),
     Data(usize, u32),
-    FillAddress,
-    FillSize(u32),
-    FillType(u32, u32),
-    FillPattern(u32, u32, u32),
-    SetType,
-    SetAddress(u32),
-    SetData(u32, u32),
-    SetDelay(u32, u32, u32),
-    JumpTo,
-    CloseTo,
-    PingCount,
-    PingWords(u32),
+    Echo(u32),
+}
+
+// What a word is for. Command: whether it is the opcode, the command, how many words are to come, those kept, and the argument that it is.
+pub enum Purpose {
+    Unknown,
+    Command(bool, Command, u32, Kept, u32),
+    Data(usize, u32),
+    Echo(u32),
 }
 
 // A phase in a struct of its own, since an enum field is not assigned.
@@ -255,22 +263,23 @@ fn reply_word(word: u32) -> Reply
     }
 }
 
-// Two words for the host.
-fn reply_words(first: u32, second: u32) -> Reply
-    ensures { λ r. ⌜ r ≡ twoWords first second ⌝ }
+// A word for the host, and after it the first word of another reply.
+fn reply_before(word: u32, reply: Reply) -> Reply
+    ensures { λ r. ⌜ r ≡ wordThen word reply ⌝ }
 {
+    let after = reply.bytes;
     Reply {
         bytes: [
-            words::byte_of(first, 0),
-            words::byte_of(first, 1),
-            words::byte_of(first, 2),
-            words::byte_of(first, 3),
-            words::byte_of(second, 0),
-            words::byte_of(second, 1),
-            words::byte_of(second, 2),
-            words::byte_of(second, 3),
+            words::byte_of(word, 0),
+            words::byte_of(word, 1),
+            words::byte_of(word, 2),
+            words::byte_of(word, 3),
+            after[0],
+            after[1],
+            after[2],
+            after[3],
         ],
-        count: 8,
+        count: 4 + four_at_most(reply.count),
     }
 }
 
@@ -433,67 +442,30 @@ fn finish(core: Core, done: Done) -> Taken
     refuse(core, refusal)
 }
 
-// The core with an opcode acknowledged.
-fn switched(core: Core, on: bool, register: u32, phase: Phase) -> Core
-    ensures { λ r. ⌜ r ≡ changed core (core .ended) on true register phase ⌝ }
+// The core, begun where the word is an opcode.
+fn begun_by(core: Core, opens: bool) -> Core
+    ensures { λ r. ⌜ r ≡ pick opens (begun core) core ⌝ }
 {
-    let mut next = moved(core, register, phase);
-    next.on = on;
-    next.begun = true;
-    next
-}
-
-// An opcode is acknowledged.
-fn acknowledge(core: Core, opcode: u32, on: bool, register: u32, phase: Phase) -> Taken
-    ensures { λ r. ⌜ r ≡ acknowledges core opcode on register phase ⌝ }
-{
-    say(
-        reply_word(acknowledgement(opcode)),
-        switched(core, on, register, phase),
-    )
-}
-
-// Request: the acknowledgement and the register, which becomes 0.
-fn request(core: Core, opcode: u32) -> Taken
-    ensures { λ r. ⌜ r ≡ opcodeTaken core opcode Command.Request ⌝ }
-{
-    let tally = core.tally;
-    say(
-        reply_words(acknowledgement(opcode), tally.register),
-        switched(core, core.on, 0, Phase::Opcode),
-    )
-}
-
-// An opcode that the table allows.
-fn take_opcode(core: Core, opcode: u32, command: Command) -> Taken
-    ensures { λ r. ⌜ r ≡ opcodeTaken core opcode command ⌝ }
-{
-    let on = core.on;
-    let tally = core.tally;
-    let register = tally.register;
-    match command {
-        Command::Load => acknowledge(core, opcode, on, register, Phase::LoadAddress),
-        Command::Fill => acknowledge(core, opcode, on, register, Phase::FillAddress),
-        Command::BootTable => acknowledge(core, opcode, on, register, Phase::SetType),
-        Command::Enable => acknowledge(core, opcode, true, 0, Phase::Opcode),
-        Command::Disable => acknowledge(core, opcode, false, register, Phase::Opcode),
-        Command::Request => request(core, opcode),
-        Command::StartOver => acknowledge(core, opcode, on, 0, Phase::Opcode),
-        Command::Jump => acknowledge(core, opcode, on, register, Phase::JumpTo),
-        Command::JumpAndClose => acknowledge(core, opcode, on, register, Phase::CloseTo),
-        Command::Ping => acknowledge(core, opcode, on, register, Phase::PingCount),
-        Command::SequentialRead => refuse(core, Refusal::Opcode),
+    if opens {
+        let mut next = core;
+        next.begun = true;
+        return next;
     }
+    core
 }
 
-// A word where an opcode is awaited.
-fn at_opcode(core: Core, opcode: u32, found: Found) -> Taken
-    ensures { λ r. ⌜ r ≡ atOpcode core opcode found ⌝ }
+// The answer to an opcode: where it is accepted the acknowledgement comes first.
+fn acknowledge(taken: Taken, opcode: u32) -> Taken
+    ensures { λ r. ⌜ r ≡ acknowledging opcode taken ⌝ }
 {
-    match found {
-        Found::Unknown => refuse(core, Refusal::Opcode),
-        Found::Known(command, _) => take_opcode(core, opcode, command),
+    let refusal = taken.refusal;
+    if refusal.number() == 0 {
+        let reply = reply_before(acknowledgement(opcode), taken.reply);
+        let mut next = taken;
+        next.reply = reply;
+        return next;
     }
+    taken
 }
 
 // What is awaited while bytes of a load are left.
@@ -603,10 +575,10 @@ fn take_data(core: Core, memory: &mut [u8], end: usize, left: u32, word: u32) ->
     say(silent(), moved(core, register, phase))
 }
 
-// Fill, at its last word.
-fn fill(core: Core, memory: &mut [u8], address: u32, size: u32, kind: u32, pattern: u32) -> Taken
-    ensures { λ r. ⌜ r ≡ inPhase (Phase.FillPattern address size kind) core (now (memory .entry)) pattern .answer ⌝ }
-    ensures { λ _. ⌜ now (memory .exit) ≡ inPhase (Phase.FillPattern address size kind) core (now (memory .entry)) pattern .memory ⌝ }
+// Fill.
+fn fill(core: Core, memory: &mut [u8], kept: Kept, pattern: u32) -> Taken
+    ensures { λ r. ⌜ r ≡ performed Command.Fill core (now (memory .entry)) kept pattern .answer ⌝ }
+    ensures { λ _. ⌜ now (memory .exit) ≡ performed Command.Fill core (now (memory .entry)) kept pattern .memory ⌝ }
 {
     let windows = core.windows;
     let tally = core.tally;
@@ -615,30 +587,48 @@ fn fill(core: Core, memory: &mut [u8], address: u32, size: u32, kind: u32, patte
         memory,
         core.on,
         tally.register,
-        address,
-        size,
-        kind,
+        kept.first,
+        kept.second,
+        kept.third,
         pattern,
     );
     finish(core, done)
 }
 
-// Boot Table, at its last word.
-fn boot_table(
-    core: Core,
-    memory: &mut [u8],
-    kind: u32,
-    address: u32,
-    value: u32,
-    delay: u32,
-) -> Taken
-    ensures { λ r. ⌜ r ≡ inPhase (Phase.SetDelay kind address value) core (now (memory .entry)) delay .answer ⌝ }
-    ensures { λ _. ⌜ now (memory .exit) ≡ inPhase (Phase.SetDelay kind address value) core (now (memory .entry)) delay .memory ⌝ }
+// Boot Table.
+fn boot_table(core: Core, memory: &mut [u8], kept: Kept, delay: u32) -> Taken
+    ensures { λ r. ⌜ r ≡ performed Command.BootTable core (now (memory .entry)) kept delay .answer ⌝ }
+    ensures { λ _. ⌜ now (memory .exit) ≡ performed Command.BootTable core (now (memory .entry)) kept delay .memory ⌝ }
 {
     let windows = core.windows;
     let tally = core.tally;
-    let done = commands::boot_table(windows, memory, tally.register, kind, address, value, delay);
+    let done = commands::boot_table(
+        windows,
+        memory,
+        tally.register,
+        kept.first,
+        kept.second,
+        kept.third,
+        delay,
+    );
     finish(core, done)
+}
+
+// Enable, Disable, Start-Over: the checksum switched or as it was, with a register.
+fn switch(core: Core, on: bool, register: u32) -> Taken
+    ensures { λ r. ⌜ r ≡ quiet (changed core (core .ended) on (core .begun) register Phase.Opcode) ⌝ }
+{
+    let mut next = moved(core, register, Phase::Opcode);
+    next.on = on;
+    say(silent(), next)
+}
+
+// Request: sends the register, which becomes 0.
+fn request(core: Core) -> Taken
+    ensures { λ r. ⌜ r ≡ performed Command.Request core [] noneKept 0 .answer ⌝ }
+{
+    let tally = core.tally;
+    say(reply_word(tally.register), moved(core, 0, Phase::Opcode))
 }
 
 // Jump.
@@ -672,7 +662,7 @@ fn ping_phase(left: u32) -> Phase
     if left == 0 {
         return Phase::Opcode;
     }
-    Phase::PingWords(left)
+    Phase::Echo(left)
 }
 
 // Ping's count and its words are echoed.
@@ -686,46 +676,138 @@ fn echo(core: Core, word: u32, left: u32) -> Taken
     )
 }
 
-// A word of a Ping, which leaves one less.
-fn echo_next(core: Core, word: u32, left: u32) -> Taken
-    ensures { λ r. ⌜ r ≡ said (oneWord word) (await core (core .tally .register) (echoing (left - 1))) ⌝ }
+// A command, with its words.
+fn perform(core: Core, memory: &mut [u8], command: Command, kept: Kept, word: u32) -> Taken
+    ensures { λ r. ⌜ r ≡ performed command core (now (memory .entry)) kept word .answer ⌝ }
+    ensures { λ _. ⌜ now (memory .exit) ≡ performed command core (now (memory .entry)) kept word .memory ⌝ }
 {
-    if left == 0 {
-        return echo(core, word, 0);
+    let on = core.on;
+    let tally = core.tally;
+    let register = tally.register;
+    match command {
+        Command::Load => begin_load(core, kept.third, word),
+        Command::Fill => fill(core, memory, kept, word),
+        Command::BootTable => boot_table(core, memory, kept, word),
+        Command::Enable => switch(core, true, 0),
+        Command::Disable => switch(core, false, register),
+        Command::Request => request(core),
+        Command::StartOver => switch(core, on, 0),
+        Command::Jump => jump(core, word),
+        Command::JumpAndClose => jump_and_close(core, word),
+        Command::Ping => echo(core, word, word),
+        Command::SequentialRead => refuse(core, Refusal::Opcode),
     }
-    echo(core, word, left - 1)
 }
 
-// The word machine: a whole word, by the phase that awaits it.
+// The words kept, with one more.
+fn keep(kept: Kept, word: u32) -> Kept
+    ensures { λ r. ⌜ r ≡ keeping kept word ⌝ }
+{
+    Kept {
+        first: kept.second,
+        second: kept.third,
+        third: word,
+    }
+}
+
+// A command with so many words to come: with none it is done, else the next is awaited.
+fn advance(
+    core: Core,
+    memory: &mut [u8],
+    command: Command,
+    coming: u32,
+    kept: Kept,
+    word: u32,
+) -> Taken
+    ensures { λ r. ⌜ r ≡ toward command coming core (now (memory .entry)) kept word .answer ⌝ }
+    ensures { λ _. ⌜ now (memory .exit) ≡ toward command coming core (now (memory .entry)) kept word .memory ⌝ }
+{
+    if coming == 0 {
+        return perform(core, memory, command, kept, word);
+    }
+    ask(core, Phase::Argument(command, coming, keep(kept, word)))
+}
+
+// What a word is for where an opcode is awaited.
+fn opcode_purpose(found: Found) -> Purpose
+    ensures { λ r. ⌜ r ≡ opcodePurpose found ⌝ }
+{
+    match found {
+        Found::Unknown => Purpose::Unknown,
+        Found::Known(command, words) => {
+            let none = Kept {
+                first: 0,
+                second: 0,
+                third: 0,
+            };
+            Purpose::Command(true, command, words, none, 0)
+        }
+    }
+}
+
+// One less, and none after none.
+fn less_one(left: u32) -> u32
+    ensures { λ r. ⌜ r ≡ left - 1 ⌝ }
+{
+    if left == 0 { 0 } else { left - 1 }
+}
+
+// What a word is for, by the phase that awaits it.
+fn purpose_of(phase: Phase, word: u32) -> Purpose
+    ensures { λ r. ⌜ r ≡ purposeOf phase word ⌝ }
+{
+    match phase {
+        Phase::Opcode => opcode_purpose(script::look_up(word, Mode::Sent)),
+        Phase::Argument(command, left, kept) => {
+            Purpose::Command(false, command, less_one(left), kept, word)
+        }
+        Phase::Data(end, left) => Purpose::Data(end, left),
+        Phase::Echo(left) => Purpose::Echo(left),
+    }
+}
+
+// A word of a command, its opcode or an argument.
+fn take_command(
+    core: Core,
+    memory: &mut [u8],
+    opens: bool,
+    command: Command,
+    left: u32,
+    kept: Kept,
+    argument: u32,
+    word: u32,
+) -> Taken
+    ensures { λ r. ⌜ r ≡ served (Purpose.Command opens command left kept argument) core (now (memory .entry)) word .answer ⌝ }
+    ensures { λ _. ⌜ now (memory .exit) ≡ served (Purpose.Command opens command left kept argument) core (now (memory .entry)) word .memory ⌝ }
+{
+    let taken = advance(begun_by(core, opens), memory, command, left, kept, argument);
+    if opens {
+        return acknowledge(taken, word);
+    }
+    taken
+}
+
+// The word machine: a whole word, by what it is for.
 pub fn take_word(core: Core, memory: &mut [u8], word: u32) -> Taken
     ensures { λ r. ⌜ r ≡ wordStep core (now (memory .entry)) word .answer ⌝ }
     ensures { λ _. ⌜ now (memory .exit) ≡ wordStep core (now (memory .entry)) word .memory ⌝ }
 {
     let stage = core.stage;
     let phase = stage.phase;
-    match phase {
-        Phase::Opcode => at_opcode(core, word, script::look_up(word, Mode::Sent)),
-        Phase::LoadAddress => ask(core, Phase::LoadSize(word)),
-        Phase::LoadSize(address) => begin_load(core, address, word),
-        Phase::Data(end, left) => take_data(core, memory, end, left, word),
-        Phase::FillAddress => ask(core, Phase::FillSize(word)),
-        Phase::FillSize(address) => ask(core, Phase::FillType(address, word)),
-        Phase::FillType(address, size) => ask(core, Phase::FillPattern(address, size, word)),
-        Phase::FillPattern(address, size, kind) => fill(core, memory, address, size, kind, word),
-        Phase::SetType => ask(core, Phase::SetAddress(word)),
-        Phase::SetAddress(kind) => ask(core, Phase::SetData(kind, word)),
-        Phase::SetData(kind, address) => ask(core, Phase::SetDelay(kind, address, word)),
-        Phase::SetDelay(kind, address, value) => boot_table(
+    let purpose = purpose_of(phase, word);
+    match purpose {
+        Purpose::Unknown => refuse(core, Refusal::Opcode),
+        Purpose::Command(opens, command, left, kept, argument) => take_command(
             core,
             memory,
-            kind,
-            address,
-            value,
+            opens,
+            command,
+            left,
+            kept,
+            argument,
             word,
         ),
-        Phase::JumpTo => jump(core, word),
-        Phase::CloseTo => jump_and_close(core, word),
-        Phase::PingCount => echo(core, word, word),
-        Phase::PingWords(left) => echo_next(core, word, left),
+        Purpose::Data(end, left) => take_data(core, memory, end, left, word),
+        Purpose::Echo(left) => echo(core, word, less_one(left)),
     }
 }

@@ -1,24 +1,32 @@
--- `sent::acknowledge` meets its contract: it puts together what it calls.
+-- `sent::acknowledge` meets its contract: the refusal's number is 0 exactly where there is none.
 use borrow.Author.Needs.{needs}
+use mathlib.Core.Path.{sym, _∙_}
+use borrow.Author.Tests.{eq-eqb, ne-eqb}
+use Rattle.words.proofs.Choice.{chosen, passed}
+use Rattle.sent.specs.Machine.{acknowledging}
 use Rattle.sent.proofs.acknowledge.Statement.{statement}
 use Rattle.sent.proofs.acknowledge.Tie as tie
+
+number-requires : tie.Need-number-requires
+number-requires c κs = search needs
 
 acknowledgement-requires : tie.Need-acknowledgement-requires
 acknowledgement-requires c κs = search needs
 
-reply-word-requires : tie.Need-reply-word-requires
-reply-word-requires c κs = search needs
-
-switched-requires : tie.Need-switched-requires
-switched-requires c κs = search needs
-
-say-requires : tie.Need-say-requires
-say-requires c κs = search needs
+reply-before-requires : tie.Need-reply-before-requires
+reply-before-requires c κs = search needs
 
 returns : tie.Need-returns
-returns c = rw (c .say .ensures, c .before .switched .ensures, c .before .before .reply-word .ensures, c .before .before .before .acknowledgement .ensures)
+unfolding acknowledging
+returns c =
+    rw (c .reply-before .ensures, c .before .acknowledgement .ensures)
+    (sym (chosen _ _ _ (eq-eqb _ _ (sym (c .before .before .before .number .ensures) ∙ c .before .before .if1 .taken))))
+
+returns-2 : tie.Need-returns-2
+unfolding acknowledging
+returns-2 c = sym (passed _ _ _ (ne-eqb _ _ (rw (c .before .number .ensures) at (c .if1 .left))))
 
 pub acknowledge-spec : {M : Type 1} → statement M
 acknowledge-spec =
     tie.close
-    (tie.spec acknowledgement-requires reply-word-requires switched-requires say-requires returns)
+    (tie.spec number-requires acknowledgement-requires reply-before-requires returns returns-2)

@@ -3,22 +3,17 @@ use borrow.Author.Needs.{needs}
 use Rattle.sent.proofs.request.Statement.{statement}
 use Rattle.sent.proofs.request.Tie as tie
 
-acknowledgement-requires : tie.Need-acknowledgement-requires
-acknowledgement-requires c κs = search needs
+reply-word-requires : tie.Need-reply-word-requires
+reply-word-requires c κs = search needs
 
-reply-words-requires : tie.Need-reply-words-requires
-reply-words-requires c κs = search needs
-
-switched-requires : tie.Need-switched-requires
-switched-requires c κs = search needs
+moved-requires : tie.Need-moved-requires
+moved-requires c κs = search needs
 
 say-requires : tie.Need-say-requires
 say-requires c κs = search needs
 
 returns : tie.Need-returns
-returns c = rw (c .say .ensures, c .before .switched .ensures, c .before .before .reply-words .ensures, c .before .before .before .acknowledgement .ensures)
+returns c = rw (c .say .ensures, c .before .moved .ensures, c .before .before .reply-word .ensures)
 
 pub request-spec : {M : Type 1} → statement M
-request-spec =
-    tie.close
-    (tie.spec acknowledgement-requires reply-words-requires switched-requires say-requires returns)
+request-spec = tie.close (tie.spec reply-word-requires moved-requires say-requires returns)

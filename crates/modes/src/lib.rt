@@ -1,0 +1,1 @@
+// Facts about the rules of both modes: there is no code here.

@@ -1,0 +1,36 @@
+-- What a word is for, as the code decides it before anything is done. It says nothing new: `purpose-served` in proofs/Cases.antt shows that a word taken
+-- for its purpose is the word in its phase.
+use Prim.Native.Nat.{ℕ, _-_}
+use mathlib.Core.Bool.{true, false}
+use mathlib.Core.List.{List}
+use Rattle.words.specs.Choice.{pick}
+use Rattle.script.specs.Opcodes.{lookedUp}
+use Rattle.script.specs.declared.Found.{Found}
+use Rattle.script.specs.declared.Found.the-variants as found
+use Rattle.script.specs.declared.Mode.the-variants.{Sent}
+use Rattle.sent.specs.Machine.{Outcome, noneKept, toward, begun, opening, atOpcode, inPhase}
+use Rattle.sent.specs.declared.Core.{Core}
+use Rattle.sent.specs.declared.Phase.{Phase}
+use Rattle.sent.specs.declared.Phase.the-variants as phase
+use Rattle.sent.specs.declared.Purpose.{Purpose}
+use Rattle.sent.specs.declared.Purpose.the-variants.{Unknown, Command, Data, Echo}
+
+-- an opcode: the words to come are those of its row, and none of them is here yet
+abbrev pub opcodePurpose : Found → Purpose
+opcodePurpose found.Unknown = Unknown
+opcodePurpose (found.Known command words) = Command true command words noneKept 0
+
+-- a word, by the phase that awaits it
+abbrev pub purposeOf : Phase → ℕ → Purpose
+purposeOf phase.Opcode word = opcodePurpose (lookedUp word Sent)
+purposeOf (phase.Argument command left kept) word = Command false command (left - 1) kept word
+purposeOf (phase.Data end left) word = Data end left
+purposeOf (phase.Echo n) word = Echo n
+
+-- a word taken for its purpose
+abbrev pub served : Purpose → Core → List ℕ → ℕ → Outcome
+served Unknown k m word = atOpcode k m word found.Unknown
+served (Command opens command left kept argument) k m word =
+    pick opens (opening word (toward command left (begun k) m kept argument)) (toward command left k m kept argument)
+served (Data end left) k m word = inPhase (phase.Data end left) k m word
+served (Echo n) k m word = inPhase (phase.Echo n) k m word
