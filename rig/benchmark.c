@@ -12,10 +12,11 @@
 #include <time.h>
 
 enum { MEMORY_LENGTH = 65536, SCRIPT_LIMIT = 65536, ROOM_LENGTH = 6 + 2 * SCRIPT_LIMIT };
-enum { ROUNDS = 301, FILL_COUNT = 16, LOAD_ROOM = 1024 };
+enum { ROUNDS = 301, FILL_COUNT = 16, SHORT_COUNT = 3200, LOAD_ROOM = 1024 };
 
 enum { FIRST_WORD = 0x41504954 };
-enum { LOAD = 0x58535901, ENABLE = 0x58535903, JUMP_AND_CLOSE = 0x58535906, FILL = 0x5853590A };
+enum { LOAD = 0x58535901, ENABLE = 0x58535903, JUMP_AND_CLOSE = 0x58535906 };
+enum { BOOT_TABLE = 0x58535907, FILL = 0x5853590A };
 
 static const uint32_t WINDOW[] = {0x80000000, MEMORY_LENGTH, 7};
 
@@ -94,18 +95,36 @@ static void make_load(struct work *work, const char *name, bool is_flash, bool c
     end_work(work);
 }
 
+static void add_command(struct work *work, uint32_t opcode, const uint32_t arguments[4])
+{
+    add_word(work, opcode);
+    for (unsigned index = 0; index < 4; index++)
+        add_word(work, arguments[index]);
+}
+
+/* Short commands, each a word further: settings of a three-bit field, or fills of one word. */
+static void make_short(struct work *work, const char *name, bool is_flash, uint32_t opcode, unsigned count)
+{
+    uint32_t address = WINDOW[0];
+
+    begin_work(work, name, is_flash, false);
+    work->repeats = 4 * SHORT_COUNT / count;
+    for (unsigned index = 0; index < count; index++, address += 4) {
+        if (opcode == FILL)
+            add_command(work, FILL, (uint32_t[]){address, 4, 2, 0x01234567 * index});
+        else
+            add_command(work, BOOT_TABLE, (uint32_t[]){0x00060403, address, index % 8, 0});
+    }
+    end_work(work);
+}
+
 /* Many fills of the whole memory. */
 static void make_fills(struct work *work, const char *name, uint32_t type)
 {
     begin_work(work, name, true, false);
     work->repeats = 1;
-    for (unsigned count = 0; count < FILL_COUNT; count++) {
-        add_word(work, FILL);
-        add_word(work, WINDOW[0]);
-        add_word(work, MEMORY_LENGTH);
-        add_word(work, type);
-        add_word(work, 0x01234567 * (count + 1));
-    }
+    for (unsigned count = 0; count < FILL_COUNT; count++)
+        add_command(work, FILL, (uint32_t[]){WINDOW[0], MEMORY_LENGTH, type, 0x01234567 * (count + 1)});
     end_work(work);
 }
 
@@ -180,14 +199,14 @@ static double measure_both(const struct work *work)
         ratios[round] = proved.seconds[round] / plain.seconds[round];
     }
     ratio = median(ratios);
-    printf("%-32s %12.1f %12.1f %8.2f\n", work->name, median(proved.seconds) * 1e6, median(plain.seconds) * 1e6,
+    printf("%-32s %12.2f %12.2f %8.2f\n", work->name, median(proved.seconds) * 1e6, median(plain.seconds) * 1e6,
            ratio);
     return ratio;
 }
 
 int main(int argument_count, char **arguments)
 {
-    static struct work works[7];
+    static struct work works[13];
     double allowed = argument_count > 1 ? strtod(arguments[1], NULL) : 1e9, highest = 0;
 
     for (unsigned index = 0; index < 3; index++)
@@ -199,8 +218,14 @@ int main(int argument_count, char **arguments)
     make_fills(&works[4], "16 fills of 65,536, unit 1", 0);
     make_fills(&works[5], "16 fills of 65,536, unit 2", 1);
     make_fills(&works[6], "16 fills of 65,536, unit 4", 2);
+    make_short(&works[7], "3,200 sent settings", false, BOOT_TABLE, SHORT_COUNT);
+    make_short(&works[8], "3,200 sent fills of one word", false, FILL, SHORT_COUNT);
+    make_short(&works[9], "one sent setting", false, BOOT_TABLE, 1);
+    make_short(&works[10], "3,200 flash settings", true, BOOT_TABLE, SHORT_COUNT);
+    make_short(&works[11], "3,200 flash fills of one word", true, FILL, SHORT_COUNT);
+    make_short(&works[12], "one flash setting", true, BOOT_TABLE, 1);
     printf("%-32s %12s %12s %8s\n", "microseconds, medians", "proved", "plain", "ratio");
-    for (unsigned index = 0; index < 7; index++) {
+    for (unsigned index = 0; index < sizeof works / sizeof *works; index++) {
         double ratio = measure_both(&works[index]);
         highest = ratio > highest ? ratio : highest;
     }

@@ -72,7 +72,10 @@ fn send_words(begun: Answer, memory: &mut [u8], listed: &[u32]) -> Answer {
 fn start(name: &[u8], first: u32, memory: &mut [u8]) -> Answer {
     text::text_line(b"session=", name);
     let opened = Session::open(1, runs::one_window(first));
-    text::text_line(b"greeting=", &Session::GREETING);
+    let reply = opened.reply;
+    let bytes = reply.bytes;
+    let letters = [bytes[0], bytes[1], bytes[2], bytes[3], bytes[4], bytes[5]];
+    text::text_line(b"greeting=", &letters);
     text::write(b"sent=");
     text::byte(Session::START);
     let answer = send_byte(opened.session, memory, Session::START);

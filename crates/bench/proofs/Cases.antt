@@ -13,13 +13,13 @@ use Rattle.windows.specs.Window.{sumOf}
 use Rattle.script.specs.Answers.{numberOf}
 use Rattle.script.specs.declared.Refusal.the-variants as refusal
 use Rattle.sent.specs.declared.Opened.{Opened}
-use Rattle.bench.specs.Feeding.{unfed, fedAll, greeted, roomy, sessionFrom, tallied, laidIn}
+use Rattle.bench.specs.Feeding.{unfed, fedAll, greeted, mostFed, openingRoom, byteRoom, roomy, sessionFrom, tallied, laidIn}
 
--- the room is long enough, and no more than 65,536 bytes are fed
-pub has-room : (n room : ℕ) → roomy n room ≡ true → (n ≤ 65536) × (6 + 2 * n ≤ room)
+-- the room is long enough, and no more bytes are fed than may be
+pub has-room : (n room : ℕ) → roomy n room ≡ true → (n ≤ mostFed) × (openingRoom + byteRoom * n ≤ room)
 unfolding roomy
 has-room n room e =
-    let parts = both (leb n 65536) _ e in
+    let parts = both (leb n mostFed) _ e in
     (leb-true _ _ (parts .0), leb-true _ _ (parts .1))
 
 -- a refusal before anything is fed
@@ -44,7 +44,7 @@ module _ (o : Opened) (m bytes : List ℕ) (room : ℕ) where
       from-narrow e =
           passed _ _ _ (ap not (eq-eqb _ _ opened)) ∙ passed _ _ _ (ap not (eq-eqb _ _ lent)) ∙ chosen _ _ _ (ap not e)
 
-      pub from-fed : roomy (length bytes) room ≡ true → sessionFrom o m bytes room ≡ greeted (fedAll (o .session) m bytes)
+      pub from-fed : roomy (length bytes) room ≡ true → sessionFrom o m bytes room ≡ greeted (o .reply) (fedAll (o .session) m bytes)
       unfolding sessionFrom
       from-fed e =
           passed _ _ _ (ap not (eq-eqb _ _ opened)) ∙ passed _ _ _ (ap not (eq-eqb _ _ lent)) ∙ passed _ _ _ (ap not e)

@@ -35,7 +35,7 @@ use Rattle.sent.specs.declared.Phase.the-variants as phase
 use Rattle.sent.specs.declared.Reply.{Reply}
 use Rattle.sent.specs.declared.Session.{Session}
 use Rattle.sent.specs.declared.Taken.{Taken}
-use Rattle.bench.specs.Feeding.{fedAll}
+use Rattle.bench.specs.Feeding.{fedAll, openingRoom}
 
 -- what answers a whole word: nothing, or one word or two where it is accepted
 data Says (q : Refusal) : Reply → Type 0 where
@@ -154,7 +154,10 @@ replies-fit s m (b ∷ bytes) =
       replies-fit (o .answer .session) (o .memory) bytes,
     )
 
--- an opening has gathered nothing
-pub opened-idle : (count : ℕ) (windows : List Window) → openedBy count windows .session .line .have ≡ 0
+-- an opening has gathered nothing, and its reply is at most BOOTME
+pub opened-idle : (count : ℕ) (windows : List Window)
+    → (openedBy count windows .session .line .have ≡ 0) × (length (sentBytes (openedBy count windows .reply)) ≤ openingRoom)
 unfolding openedBy
-opened-idle count windows = of-choice (λ (o : Opened). o .session .line .have ≡ 0) _ (λ e. refl) (λ e. refl)
+opened-idle count windows =
+    of-choice (λ (o : Opened). (o .session .line .have ≡ 0) × (length (sentBytes (o .reply)) ≤ openingRoom)) _ (λ e. (refl, omega arith))
+    (λ e. (refl, omega arith))

@@ -12,11 +12,11 @@ use lib.Seq.{sets, sets-eq, drop-cons, drop-length, getD-take}
 use Rattle.words.proofs.Choice.{chosen, passed, by-test}
 use Rattle.script.specs.Answers.{numberOf}
 use Rattle.sent.specs.Line.{Outcome, byteStep}
-use Rattle.sent.specs.Opening.{greeting}
 use Rattle.sent.specs.Replies.{sentBytes}
 use Rattle.sent.specs.declared.Answer.{Answer}
+use Rattle.sent.specs.declared.Reply.{Reply}
 use Rattle.sent.specs.declared.Session.{Session}
-use Rattle.bench.specs.Feeding.{Fed, unfed, firstOf, joined, fedAll, greeted, tallied, laidIn}
+use Rattle.bench.specs.Feeding.{Fed, unfed, firstOf, joined, fedAll, greeted, openingRoom, byteRoom, tallied, laidIn}
 use Rattle.bench.proofs.Fitting.{replies-fit}
 
 -- storing one list and then another behind it
@@ -95,20 +95,22 @@ module _ (room : List ℕ) (count first : ℕ) where
   unfolding fedAll
   fed-turn s m bytes i h e f l t n = rw (l, t, n, f, e, add-one, drop-cons bytes i 0 h) (answered (byteStep s m (getD bytes i 0)) _)
 
--- the end of a whole session, with BOOTME laid down before it
-module _ (room₀ : List ℕ) (s : Session) (m₀ bytes : List ℕ) (idle : s .line .have ≡ 0) (roomy : 6 + 2 * length bytes ≤ length room₀) where
+-- the end of a whole session, with the opening's reply laid down before it
+module _ (room₀ : List ℕ) (s : Session) (opening : Reply) (m₀ bytes : List ℕ) (idle : s .line .have ≡ 0)
+    (short : length (sentBytes opening) ≤ openingRoom) (roomy : openingRoom + byteRoom * length bytes ≤ length room₀) where
   abbrev whole : Fed
-  whole = greeted (fedAll s m₀ bytes)
+  whole = greeted opening (fedAll s m₀ bytes)
 
   pub delivers : {room m : List ℕ} (count first : ℕ)
-      → reached room count first (unfed 0 m) ≡ reached (sets room₀ 0 greeting) 6 0 (fedAll s m₀ bytes)
+      → reached room count first (unfed 0 m) ≡ reached (sets room₀ 0 (sentBytes opening)) (0 + length (sentBytes opening)) 0 (fedAll s m₀ bytes)
       → (first * 2 ^ 32 + count ≡ tallied whole) × ((m ≡ whole .memory) × (room ≡ laidIn room₀ whole))
   unfolding reached tallied laidIn
   delivers count first same =
+      let greeting : List ℕ = sentBytes opening in
       let replies = fedAll s m₀ bytes .replies in
-      let long : length (greeting ++ replies) ≡ 6 + length replies = length-append greeting replies in
+      let long : length (greeting ++ replies) ≡ length greeting + length replies = length-append greeting replies in
       let fits : 0 + length (greeting ++ replies) ≤ length room₀ = omega (arith, replies-fit s m₀ bytes) in
-      let sum : _ ≡ 6 + length replies = ap (λ (e : End). e .count) same in
+      let sum : _ ≡ 0 + length greeting + length replies = ap (λ (e : End). e .count) same in
       let refused : first ≡ fedAll s m₀ bytes .refusal =
       sym (first-none first) ∙ ap (λ (e : End). e .refusal) same ∙ none-first _ in (
         omega arith,

@@ -9,9 +9,10 @@ use Rattle.windows.specs.Window.{sumOf}
 use Rattle.script.specs.Answers.{numberOf}
 use Rattle.script.specs.declared.Refusal.the-variants as refusal
 use Rattle.sent.specs.Line.{Outcome, byteStep}
-use Rattle.sent.specs.Opening.{greeting, openedBy}
+use Rattle.sent.specs.Opening.{openedBy}
 use Rattle.sent.specs.Replies.{sentBytes}
 use Rattle.sent.specs.declared.Opened.{Opened}
+use Rattle.sent.specs.declared.Reply.{Reply}
 use Rattle.sent.specs.declared.Session.{Session}
 use Rattle.maps.specs.Map.{windowsOf, countOf}
 
@@ -43,13 +44,24 @@ unfoldable pub fedAll : Session → List ℕ → List ℕ → Fed
 fedAll s m [] = unfed 0 m
 fedAll s m (b ∷ bs) = joined (byteStep s m b) (fedAll (byteStep s m b .answer .session) (byteStep s m b .memory) bs)
 
--- with BOOTME before the replies
-abbrev pub greeted : Fed → Fed
-greeted f = record { replies = greeting ++ f .replies; refusal = f .refusal; memory = f .memory }
+-- with the opening's reply before the others
+abbrev pub greeted : Reply → Fed → Fed
+greeted reply f = record { replies = sentBytes reply ++ f .replies; refusal = f .refusal; memory = f .memory }
 
--- at most 65,536 bytes are fed, and the room has 6 + 2 × n bytes
+-- the most bytes that are fed
+abbrev pub mostFed : ℕ
+mostFed = 65536
+
+-- the room that the replies need: for the opening's, and for those to each byte
+abbrev pub openingRoom : ℕ
+openingRoom = 6
+
+abbrev pub byteRoom : ℕ
+byteRoom = 2
+
+-- no more bytes are fed, and the room is not shorter
 unfoldable pub roomy : ℕ → ℕ → Bool
-roomy n room = leb n 65536 && leb (6 + 2 * n) room
+roomy n room = leb n mostFed && leb (openingRoom + byteRoom * n) room
 
 -- a session from its opening: 1, 2, 19, else the bytes are fed
 unfoldable pub sessionFrom : Opened → List ℕ → List ℕ → ℕ → Fed
@@ -57,7 +69,7 @@ sessionFrom o memory bytes room =
     pick (not (eqb (numberOf (o .refusal)) 0)) (unfed (numberOf (o .refusal)) memory)
     (pick (not (eqb (length memory) (sumOf (o .session .core .windows)))) (unfed (numberOf refusal.Memory) memory)
     (pick (not (roomy (length bytes) room)) (unfed (numberOf refusal.Call) memory)
-    (greeted (fedAll (o .session) memory bytes))))
+    (greeted (o .reply) (fedAll (o .session) memory bytes))))
 
 -- a session on a map's bytes
 abbrev pub sentSession : List ℕ → List ℕ → List ℕ → List ℕ → Fed

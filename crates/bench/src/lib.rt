@@ -4,9 +4,8 @@ ghost use Prim.Native.Nat.{_+_, _*_, _^_, _≤_};
 ghost use lib.ListN.{length};
 ghost use lib.Seq.{sets};
 ghost use Rattle.script.specs.Answers.{numberOf};
-ghost use Rattle.sent.specs.Opening.{greeting};
 ghost use Rattle.sent.specs.Replies.{sentBytes};
-ghost use Rattle.bench.specs.Feeding.{firstOf, fedAll, greeted, roomy, sessionFrom, tallied, laidIn, sentValue, sentMemory, sentRoom};
+ghost use Rattle.bench.specs.Feeding.{firstOf, fedAll, greeted, mostFed, openingRoom, byteRoom, roomy, sessionFrom, tallied, laidIn, sentValue, sentMemory, sentRoom};
 ghost use Rattle.bench.specs.Runs.{ranFrom, reported, flashValue, flashMemory};
 use flash::Called;
 use flash::Opened;
@@ -14,6 +13,14 @@ use flash::Session;
 use script::Event;
 use script::Refusal;
 use sent::Reply;
+
+// The most bytes that are fed in one call.
+const MOST_FED: usize = 65536;
+
+// The room that the opening's reply needs, and that the replies to each byte need.
+const OPENING_ROOM: usize = 6;
+
+const BYTE_ROOM: usize = 2;
 
 // An answer in one number: refusal, retries, offset of the last command in words, register.
 fn report(called: Called) -> u64
@@ -55,26 +62,6 @@ pub extern "C" fn ais_flash_run(map: &[u8], memory: &mut [u8], image: &[u8], lim
     report(run_from(opened, memory, image))
 }
 
-// BOOTME as a reply.
-fn greet() -> Reply
-    ensures { λ r. ⌜ sentBytes r ≡ greeting ⌝ }
-{
-    let letters = sent::Session::GREETING;
-    Reply {
-        bytes: [
-            letters[0],
-            letters[1],
-            letters[2],
-            letters[3],
-            letters[4],
-            letters[5],
-            0,
-            0,
-        ],
-        count: 6,
-    }
-}
-
 // Writes a reply into the room from a place on; the place past it.
 fn put_reply(room: &mut [u8], at: usize, reply: Reply) -> usize
     requires { ⌜ at ≤ length (now room) ⌝ }
@@ -104,14 +91,20 @@ fn first_of(first: u8, refusal: Refusal) -> u8
     first
 }
 
-// Feeds all bytes; the replies go to the room, BOOTME first.
-fn feed_all(session: sent::Session, memory: &mut [u8], fed: &[u8], room: &mut [u8]) -> u64
-    requires { ⌜ (session .line .have ≡ 0) × ((length (now fed) ≤ 65536) × (6 + 2 * length (now fed) ≤ length (now room))) ⌝ }
-    ensures { λ r. ⌜ r ≡ tallied (greeted (fedAll session (now (memory .entry)) (now (fed .entry)))) ⌝ }
+// Feeds all bytes; the replies go to the room, the opening's first.
+fn feed_all(
+    session: sent::Session,
+    opening: Reply,
+    memory: &mut [u8],
+    fed: &[u8],
+    room: &mut [u8],
+) -> u64
+    requires { ⌜ (session .line .have ≡ 0) × ((length (sentBytes opening) ≤ openingRoom) × ((length (now fed) ≤ mostFed) × (openingRoom + byteRoom * length (now fed) ≤ length (now room)))) ⌝ }
+    ensures { λ r. ⌜ r ≡ tallied (greeted opening (fedAll session (now (memory .entry)) (now (fed .entry)))) ⌝ }
     ensures { λ _. ⌜ now (memory .exit) ≡ fedAll session (now (memory .entry)) (now (fed .entry)) .memory ⌝ }
-    ensures { λ _. ⌜ now (room .exit) ≡ laidIn (now (room .entry)) (greeted (fedAll session (now (memory .entry)) (now (fed .entry)))) ⌝ }
+    ensures { λ _. ⌜ now (room .exit) ≡ laidIn (now (room .entry)) (greeted opening (fedAll session (now (memory .entry)) (now (fed .entry)))) ⌝ }
 {
-    let mut count = put_reply(room, 0, greet());
+    let mut count = put_reply(room, 0, opening);
     let mut first: u8 = 0;
     let mut live = session;
     let mut i: usize = 0;
@@ -131,8 +124,8 @@ fn feed_all(session: sent::Session, memory: &mut [u8], fed: &[u8], room: &mut [u
 fn is_roomy(n: usize, room: usize) -> bool
     ensures { λ r. ⌜ r ≡ roomy n room ⌝ }
 {
-    if n <= 65536 {
-        return 6 + 2 * n <= room;
+    if n <= MOST_FED {
+        return OPENING_ROOM + BYTE_ROOM * n <= room;
     }
     false
 }
@@ -146,7 +139,7 @@ fn refuse(refusal: Refusal) -> u64
 
 // A session from its opening.
 fn session_from(opened: sent::Opened, memory: &mut [u8], fed: &[u8], room: &mut [u8]) -> u64
-    requires { ⌜ opened .session .line .have ≡ 0 ⌝ }
+    requires { ⌜ (opened .session .line .have ≡ 0) × (length (sentBytes (opened .reply)) ≤ openingRoom) ⌝ }
     ensures { λ r. ⌜ r ≡ tallied (sessionFrom opened (now (memory .entry)) (now (fed .entry)) (length (now (room .entry)))) ⌝ }
     ensures { λ _. ⌜ now (memory .exit) ≡ sessionFrom opened (now (memory .entry)) (now (fed .entry)) (length (now (room .entry))) .memory ⌝ }
     ensures { λ _. ⌜ now (room .exit) ≡ laidIn (now (room .entry)) (sessionFrom opened (now (memory .entry)) (now (fed .entry)) (length (now (room .entry)))) ⌝ }
@@ -156,6 +149,7 @@ fn session_from(opened: sent::Opened, memory: &mut [u8], fed: &[u8], room: &mut 
         return refuse(refusal);
     }
     let session = opened.session;
+    let opening = opened.reply;
     let windows = session.core.windows;
     if memory.len() != windows::sum(windows) {
         return refuse(Refusal::Memory);
@@ -163,7 +157,7 @@ fn session_from(opened: sent::Opened, memory: &mut [u8], fed: &[u8], room: &mut 
     if !is_roomy(fed.len(), room.len()) {
         return refuse(Refusal::Call);
     }
-    feed_all(session, memory, fed, room)
+    feed_all(session, opening, memory, fed, room)
 }
 
 // One whole sent session.

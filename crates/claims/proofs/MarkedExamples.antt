@@ -15,7 +15,7 @@ use Rattle.words.specs.declared.Unit.the-variants.{Four}
 use Rattle.words.proofs.Choice.{chosen}
 use Rattle.checksum.specs.Checksum.{shifted, fedBit, fed, fedWords}
 use Rattle.windows.specs.Window.{hasRight, inside, grantsRange, placeFrom, placeOf}
-use Rattle.commands.specs.Commands.{multiple, rangeJudged, loadJudged, wordsFed, loadFed, fillJudged, filled, fillMemory, fieldShape, shapeOf, unitJudged, settingMemory, target, soughtFrom}
+use Rattle.commands.specs.Commands.{multiple, rangeJudged, loadJudged, wordsFed, loadFed, unitOf, unitsJudged, fillJudged, filled, fillMemory, fieldShape, shapeOf, settingMemory, target, soughtFrom}
 use Rattle.claims.specs.MarkedExamples.{AllHold, wordThen, marked}
 
 module _ (word value : ℕ) (rest : List ℕ) where
@@ -45,8 +45,8 @@ a and b = (a, b)
 
 pub marked-hold : AllHold marked
 unfolding pick bit join withField byte number bytesAt put fits fieldFits fieldWritten shifted fedBit fed fedWords
-    hasRight inside grantsRange placeFrom placeOf multiple rangeJudged loadJudged wordsFed loadFed fillJudged filled fillMemory
-    fieldShape shapeOf unitJudged settingMemory target soughtFrom
+    hasRight inside grantsRange placeFrom placeOf multiple rangeJudged loadJudged wordsFed loadFed unitOf unitsJudged fillJudged filled fillMemory
+    fieldShape shapeOf settingMemory target soughtFrom
 marked-hold =
     refl
     and refl

@@ -8,7 +8,6 @@ use Rattle.words.proofs.Unit.size.Reads as size
 use Rattle.words.proofs.bit_of.Reads as bit_of
 use Rattle.words.proofs.byte_of.Reads as byte_of
 use Rattle.words.proofs.number_of.Reads as number_of
-use Rattle.words.proofs.read.Reads as read
 use Rattle.words.proofs.put_byte.Reads as put_byte
 use Rattle.words.proofs.word_at.Reads as word_at
 use Rattle.words.proofs.write.Reads as write
@@ -81,9 +80,6 @@ byte-of-unique κs a r s e f = same
 
 pub number-of-unique : OneResult number_of.Post
 number-of-unique κs a r s e f = same
-
-pub read-unique : OneResult read.Post
-read-unique κs a r s e f = same
 
 pub word-at-unique : OneResult word_at.Post
 word-at-unique κs a r s e f = same

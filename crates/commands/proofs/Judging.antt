@@ -1,20 +1,27 @@
 -- What each judgement comes to, by the facts that its tests ask. Each law takes the tests of a definition one after the other.
-use Prim.Native.Nat.{ℕ, _%_, _≤_, _<_}
-use mathlib.Core.Bool.{true, false, not}
+use Prim.Native.Nat.{ℕ, _%_}
+use mathlib.Core.Bool.{Bool, true, false, not, _&&_}
 use mathlib.Core.List.{List}
-use mathlib.Core.Path.{_≡_, ap, _∙_}
-use native.Mathlib.Decide.{decLe}
-use native.Mathlib.Omega.{arith}
-use borrow.Author.Tests.{le-leb, lt-leb, eq-eqb, ne-eqb}
+use mathlib.Core.Path.{_≡_, ap, ap₂}
+use borrow.Author.Tests.{eq-eqb, ne-eqb}
 use Rattle.words.specs.Bytes.{sizeOf}
 use Rattle.words.specs.declared.Unit.{Unit as UnitOf}
-use Rattle.words.proofs.Choice.{chosen, passed}
+use Rattle.words.proofs.Choice.{chosen, passed, of-choice}
 use Rattle.windows.specs.Window.{placeOf}
 use Rattle.windows.specs.declared.Window.{Window}
+use Rattle.windows.specs.declared.Place.{Place}
+use Rattle.windows.specs.declared.Place.the-variants.{At, Nowhere}
+use Rattle.windows.specs.declared.Right.{Right}
 use Rattle.windows.specs.declared.Right.the-variants as right
+use Rattle.script.specs.declared.Refusal.{Refusal}
 use Rattle.script.specs.declared.Refusal.the-variants as refusal
-use Rattle.commands.specs.Commands.{multiple, placed, rangeJudged, unitOf, fillJudged, unitJudged, entryJudged}
+use Rattle.commands.specs.Commands.{multiple, placed, rangeJudged, loadJudged, unitOf, unitsJudged, typeJudged, fillJudged, shapeJudged, entryJudged}
+use Rattle.commands.specs.declared.Judged.{Judged}
 use Rattle.commands.specs.declared.Judged.the-variants.{Granted, Refused}
+use Rattle.commands.specs.declared.Shape.{Shape}
+use Rattle.commands.specs.declared.Shape.the-variants.{Bits, Wrong}
+use Rattle.commands.specs.declared.UnitType.{UnitType}
+use Rattle.commands.specs.declared.UnitType.the-variants.{Of, Other}
 
 -- a test for a multiple, turned round, by whether the remainder is 0
 pub is-multiple : (n unit : ℕ) → n % unit ≡ 0 → not (multiple n unit) ≡ false
@@ -25,35 +32,19 @@ pub no-multiple : (n unit : ℕ) → (n % unit ≡ 0 → ⊥) → not (multiple 
 unfolding multiple
 no-multiple n unit e = ap not (ne-eqb _ _ e)
 
-module _ (windows : List Window) (address size kind : ℕ) where
-  pub fill-type : 2 < kind → fillJudged windows address size kind ≡ Refused refusal.TypeWord
-  unfolding fillJudged
-  fill-type h = chosen _ _ _ (ap not (lt-leb _ _ h))
+module _ (windows : List Window) (wanted : Right) (unit : UnitOf) (address size : ℕ) where
+  pub units-address : (address % sizeOf unit ≡ 0 → ⊥) → unitsJudged windows wanted unit address size ≡ Refused refusal.Unaligned
+  unfolding unitsJudged multiple
+  units-address a = chosen _ _ _ (ap (λ (t : Bool). not (t && multiple size (sizeOf unit))) (ne-eqb _ _ a))
 
-  pub fill-address : kind ≤ 2 → (address % unitOf kind ≡ 0 → ⊥) → fillJudged windows address size kind ≡ Refused refusal.Unaligned
-  unfolding fillJudged
-  fill-address h a = passed _ _ _ (ap not (le-leb _ _ h)) ∙ chosen _ _ _ (no-multiple _ _ a)
+  pub units-size : address % sizeOf unit ≡ 0 → (size % sizeOf unit ≡ 0 → ⊥) → unitsJudged windows wanted unit address size ≡ Refused refusal.Unaligned
+  unfolding unitsJudged multiple
+  units-size a s = chosen _ _ _ (ap₂ (λ (t u : Bool). not (t && u)) (eq-eqb _ _ a) (ne-eqb _ _ s))
 
-  pub fill-size : kind ≤ 2 → address % unitOf kind ≡ 0 → (size % unitOf kind ≡ 0 → ⊥)
-      → fillJudged windows address size kind ≡ Refused refusal.Unaligned
-  unfolding fillJudged
-  fill-size h a s =
-      passed _ _ _ (ap not (le-leb _ _ h)) ∙ passed _ _ _ (is-multiple _ _ a) ∙ chosen _ _ _ (no-multiple _ _ s)
-
-  pub fill-range : kind ≤ 2 → address % unitOf kind ≡ 0 → size % unitOf kind ≡ 0
-      → fillJudged windows address size kind ≡ rangeJudged windows right.Load address size
-  unfolding fillJudged
-  fill-range h a s =
-      passed _ _ _ (ap not (le-leb _ _ h)) ∙ passed _ _ _ (is-multiple _ _ a) ∙ passed _ _ _ (is-multiple _ _ s)
-
-module _ (windows : List Window) (unit : UnitOf) (address : ℕ) where
-  pub unit-unaligned : (address % sizeOf unit ≡ 0 → ⊥) → unitJudged windows unit address ≡ Refused refusal.Unaligned
-  unfolding unitJudged
-  unit-unaligned a = chosen _ _ _ (no-multiple _ _ a)
-
-  pub unit-range : address % sizeOf unit ≡ 0 → unitJudged windows unit address ≡ rangeJudged windows right.Set address (sizeOf unit)
-  unfolding unitJudged
-  unit-range a = passed _ _ _ (is-multiple _ _ a)
+  pub units-range : address % sizeOf unit ≡ 0 → size % sizeOf unit ≡ 0
+      → unitsJudged windows wanted unit address size ≡ rangeJudged windows wanted address size
+  unfolding unitsJudged multiple
+  units-range a s = passed _ _ _ (ap₂ (λ (t u : Bool). not (t && u)) (eq-eqb _ _ a) (eq-eqb _ _ s))
 
 module _ (windows : List Window) (address : ℕ) where
   pub entry-unaligned : (address % 4 ≡ 0 → ⊥) → entryJudged windows address ≡ Refused refusal.Entry
@@ -64,13 +55,49 @@ module _ (windows : List Window) (address : ℕ) where
   unfolding entryJudged
   entry-placed a = passed _ _ _ (is-multiple _ _ a)
 
--- a fill that is granted has one of the three types
-pub fill-kind : (windows : List Window) (address size kind : ℕ) {place : ℕ}
-    → fillJudged windows address size kind ≡ Granted place → kind ≤ 2
-fill-kind windows address size kind {place} granted = go (decLe kind 2)
-  where
-    go : Dec (kind ≤ 2) → kind ≤ 2
-    go (yes h) = h
-    go (no h) =
-        let z : _≡_ {A = ℕ} 0 1 = cc (fill-type windows address size kind (omega arith)) in
-        omega arith
+-- what holds of each refusal that a judgement may give
+pub record EachRefusal (P : Refusal → Type 0) : Type 0 where
+  pub type-word : P refusal.TypeWord
+  pub unaligned : P refusal.Unaligned
+  pub range : P refusal.Range
+  pub entry : P refusal.Entry
+
+abbrev pub Passes : (Refusal → Type 0) → Judged → Type 0
+Passes P (Granted place) = Unit {0}
+Passes P (Refused q) = P q
+
+-- it holds of the one given
+module _ (P : Refusal → Type 0) (each : EachRefusal P) where
+  placed-passes : (q : Refusal) (place : Place) → P q → Passes P (placed q place)
+  placed-passes q (At place) p = tt
+  placed-passes q Nowhere p = p
+
+  module _ (windows : List Window) where
+    range-passes : (wanted : Right) (address size : ℕ) → Passes P (rangeJudged windows wanted address size)
+    unfolding rangeJudged
+    range-passes wanted address size = placed-passes refusal.Range (placeOf windows wanted address size) (each .range)
+
+    units-pass : (wanted : Right) (unit : UnitOf) (address size : ℕ) → Passes P (unitsJudged windows wanted unit address size)
+    unfolding unitsJudged
+    units-pass wanted unit address size = of-choice (Passes P) _ (λ e. each .unaligned) (λ e. range-passes wanted address size)
+
+    type-passes : (address size : ℕ) (kind : UnitType) → Passes P (typeJudged windows address size kind)
+    type-passes address size Other = each .type-word
+    type-passes address size (Of unit) = units-pass right.Load unit address size
+
+    pub load-passes : (address size : ℕ) → Passes P (loadJudged windows address size)
+    unfolding loadJudged
+    load-passes = range-passes right.Load
+
+    pub fill-passes : (address size kind : ℕ) → Passes P (fillJudged windows address size kind)
+    unfolding fillJudged
+    fill-passes address size kind = type-passes address size (unitOf kind)
+
+    pub shape-passes : (shape : Shape) (address : ℕ) → Passes P (shapeJudged windows shape address)
+    shape-passes Wrong address = each .type-word
+    shape-passes (Bits unit start width) address = units-pass right.Set unit address (sizeOf unit)
+
+    pub entry-passes : (address : ℕ) → Passes P (entryJudged windows address)
+    unfolding entryJudged
+    entry-passes address =
+        of-choice (Passes P) _ (λ e. each .entry) (λ e. placed-passes refusal.Entry (placeOf windows right.Entry address 0) (each .entry))

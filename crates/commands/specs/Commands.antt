@@ -27,6 +27,8 @@ use Rattle.commands.specs.declared.Shape.{Shape}
 use Rattle.commands.specs.declared.Shape.the-variants.{Bits, Wrong}
 use Rattle.commands.specs.declared.Sought.{Sought}
 use Rattle.commands.specs.declared.Sought.the-variants as sought
+use Rattle.commands.specs.declared.UnitType.{UnitType}
+use Rattle.commands.specs.declared.UnitType.the-variants.{Of, Other}
 
 -- the number that a command is refused with, 0 where it is granted
 abbrev pub judgedNumber : Judged → ℕ
@@ -80,21 +82,31 @@ unfoldable pub loadFed : ℕ → ℕ → List ℕ → ℕ
 loadFed register address bytes =
     wordsFed (fedWords register (address ∷ length bytes ∷ [])) ((length bytes + 3) / 4) bytes
 
--- Fill: type 0, 1, 2 is a unit of 1, 2, 4 bytes
-abbrev pub unitOf : ℕ → ℕ
-unitOf kind = 2 ^ kind
+-- types 0, 1, 2 are units of 1, 2, 4 bytes
+unfoldable pub unitOf : ℕ → UnitType
+unitOf kind = pick (eqb kind 0) (Of One) (pick (eqb kind 1) (Of Two) (pick (eqb kind 2) (Of Four) Other))
 
--- 8 another type, 9 address or size not a multiple of the unit, 7; needs load right
+-- whole units at an address: 9 address or size not a multiple of the unit, 7
+unfoldable pub unitsJudged : List Window → Right → UnitOf → ℕ → ℕ → Judged
+unitsJudged windows wanted unit address size =
+    pick (not (multiple address (sizeOf unit) && multiple size (sizeOf unit))) (Refused refusal.Unaligned)
+    (rangeJudged windows wanted address size)
+
+-- Fill: 8 another type, before them; needs load right
+abbrev pub typeJudged : List Window → ℕ → ℕ → UnitType → Judged
+typeJudged windows address size Other = Refused refusal.TypeWord
+typeJudged windows address size (Of unit) = unitsJudged windows right.Load unit address size
+
 unfoldable pub fillJudged : List Window → ℕ → ℕ → ℕ → Judged
-fillJudged windows address size kind =
-    pick (not (leb kind 2)) (Refused refusal.TypeWord)
-    (pick (not (multiple address (unitOf kind))) (Refused refusal.Unaligned)
-    (pick (not (multiple size (unitOf kind))) (Refused refusal.Unaligned)
-    (rangeJudged windows right.Load address size)))
+fillJudged windows address size kind = typeJudged windows address size (unitOf kind)
 
 -- the low bytes of the pattern repeat
-unfoldable pub filled : List ℕ → ℕ → ℕ → ℕ → ℕ → List ℕ
-filled memory place size kind pattern = put memory place size (λ i. byte pattern (i % unitOf kind))
+unfoldable pub filled : List ℕ → ℕ → ℕ → UnitOf → ℕ → List ℕ
+filled memory place size unit pattern = put memory place size (λ i. byte pattern (i % sizeOf unit))
+
+abbrev pub typeFilled : List ℕ → ℕ → ℕ → UnitType → ℕ → List ℕ
+typeFilled memory place size Other pattern = memory
+typeFilled memory place size (Of unit) pattern = filled memory place size unit pattern
 
 -- a fill feeds address, size, type, pattern while the checksum is on
 unfoldable pub fillDone : List Window → Bool → ℕ → ℕ → ℕ → ℕ → ℕ → Done
@@ -104,7 +116,7 @@ fillDone windows on register address size kind pattern =
 
 unfoldable pub fillMemory : List Window → List ℕ → ℕ → ℕ → ℕ → ℕ → List ℕ
 fillMemory windows memory address size kind pattern =
-    memoryIf (fillJudged windows address size kind) (λ place. filled memory place size kind pattern) memory
+    memoryIf (fillJudged windows address size kind) (λ place. typeFilled memory place size (unitOf kind) pattern) memory
 
 -- Boot Table's type word: bits 0-7 the kind, 8-15 START, 16-23 STOP
 abbrev pub startOf : ℕ → ℕ
@@ -117,26 +129,19 @@ stopOf word = byte word 2
 unfoldable pub fieldShape : ℕ → ℕ → Shape
 fieldShape start stop = pick (leb start stop && leb stop 31) (Bits Four start (stop - start + 1)) Wrong
 
--- which bits of which unit it sets: kinds 0, 1, 2 all of 1, 2, 4 bytes; 3 and 4 a field; bits 24-31 are zero
+-- which bits of which unit it sets: of a unit all, of kinds 3 and 4 a field
+abbrev pub typeShape : ℕ → UnitType → Shape
+typeShape word (Of unit) = Bits unit 0 (8 * sizeOf unit)
+typeShape word Other = pick (leb (byte word 0) 4) (fieldShape (startOf word) (stopOf word)) Wrong
+
+-- bits 24-31 are zero
 unfoldable pub shapeOf : ℕ → Shape
-shapeOf word =
-    pick (not (eqb (byte word 3) 0)) Wrong
-    (pick (eqb (byte word 0) 0) (Bits One 0 8)
-    (pick (eqb (byte word 0) 1) (Bits Two 0 16)
-    (pick (eqb (byte word 0) 2) (Bits Four 0 32)
-    (pick (leb (byte word 0) 4) (fieldShape (startOf word) (stopOf word))
-    Wrong))))
+shapeOf word = pick (not (eqb (byte word 3) 0)) Wrong (typeShape word (unitOf (byte word 0)))
 
--- 9 address not a multiple of the unit, 7; needs set right
-unfoldable pub unitJudged : List Window → UnitOf → ℕ → Judged
-unitJudged windows unit address =
-    pick (not (multiple address (sizeOf unit))) (Refused refusal.Unaligned)
-    (rangeJudged windows right.Set address (sizeOf unit))
-
--- 8 before them
+-- 8, then 9 and 7 of the unit at the address; needs set right
 abbrev pub shapeJudged : List Window → Shape → ℕ → Judged
 shapeJudged windows Wrong address = Refused refusal.TypeWord
-shapeJudged windows (Bits unit start width) address = unitJudged windows unit address
+shapeJudged windows (Bits unit start width) address = unitsJudged windows right.Set unit address (sizeOf unit)
 
 -- the bits of the shape become the low bits of the data, all other bits are kept
 abbrev pub shapeSet : List ℕ → ℕ → Shape → ℕ → List ℕ

@@ -1,8 +1,9 @@
 // What a command does once its words are known, in either mode: judged first, then done. A refused command changes nothing.
 ghost use mathlib.Core.Path.{_≡_};
 ghost use mathlib.Core.List.{[], _∷_};
-ghost use Prim.Native.Nat.{_+_, _/_, _≤_, min};
+ghost use Prim.Native.Nat.{_+_, _*_, _/_, min};
 ghost use lib.ListN.{length};
+ghost use Rattle.words.specs.Bytes.{sizeOf};
 ghost use Rattle.words.specs.Choice.{pick};
 ghost use Rattle.checksum.specs.Checksum.{fedWords};
 ghost use Rattle.commands.specs.Commands.{
@@ -14,13 +15,15 @@ ghost use Rattle.commands.specs.Commands.{
   wordsFed,
   loadFed,
   unitOf,
-  fillJudged,
+  unitsJudged,
+  typeJudged,
   filled,
+  typeFilled,
   fillDone,
   fillMemory,
   fieldShape,
+  typeShape,
   shapeOf,
-  unitJudged,
   shapeJudged,
   shapeSet,
   settingDone,
@@ -48,6 +51,12 @@ pub struct Done {
     pub refusal: Refusal,
     pub event: Event,
     pub register: u32,
+}
+
+// A type that is a unit of 1, 2 or 4 bytes, or another.
+pub enum UnitType {
+    Of(Unit),
+    Other,
 }
 
 // Which bits of which unit a Boot Table command sets: a unit, its first bit and how many.
@@ -161,44 +170,78 @@ pub fn load(
     register
 }
 
-// The bytes of a unit of a type.
-fn unit_bytes(kind: u32) -> u32
-    requires { ⌜ kind ≤ 2 ⌝ }
+// Types 0, 1, 2 are units of 1, 2, 4 bytes.
+fn unit_of(kind: u32) -> UnitType
     ensures { λ r. ⌜ r ≡ unitOf kind ⌝ }
 {
-    1 << kind
+    match kind {
+        0 => UnitType::Of(Unit::One),
+        1 => UnitType::Of(Unit::Two),
+        2 => UnitType::Of(Unit::Four),
+        _ => UnitType::Other,
+    }
 }
 
-fn judge_fill(windows: [Window; 8], address: u32, size: u32, kind: u32) -> Judged
-    ensures { λ r. ⌜ r ≡ fillJudged windows address size kind ⌝ }
+// The bytes of a unit.
+fn unit_bytes(unit: Unit) -> u32
+    ensures { λ r. ⌜ r ≡ sizeOf unit ⌝ }
 {
-    if 2 < kind {
-        return Judged::Refused(Refusal::TypeWord);
+    match unit {
+        Unit::One => 1,
+        Unit::Two => 2,
+        Unit::Four => 4,
     }
-    let unit = unit_bytes(kind);
-    if address % unit != 0 {
+}
+
+// Are whole units at an address granted?
+fn judge_units(windows: [Window; 8], right: Right, unit: Unit, address: u32, size: u32) -> Judged
+    ensures { λ r. ⌜ r ≡ unitsJudged windows right unit address size ⌝ }
+{
+    let bytes = unit_bytes(unit);
+    if address % bytes != 0 {
         return Judged::Refused(Refusal::Unaligned);
     }
-    if size % unit != 0 {
+    if size % bytes != 0 {
         return Judged::Refused(Refusal::Unaligned);
     }
-    judge_range(windows, Right::Load, address, size)
+    judge_range(windows, right, address, size)
+}
+
+fn judge_fill(windows: [Window; 8], address: u32, size: u32, kind: UnitType) -> Judged
+    ensures { λ r. ⌜ r ≡ typeJudged windows address size kind ⌝ }
+{
+    match kind {
+        UnitType::Other => Judged::Refused(Refusal::TypeWord),
+        UnitType::Of(unit) => judge_units(windows, Right::Load, unit, address, size),
+    }
 }
 
 // The pattern's bytes, each by the remainder of its place in the unit; none past the end.
-fn fill_bytes(memory: &mut [u8], place: usize, size: u32, kind: u32, pattern: u32)
-    requires { ⌜ kind ≤ 2 ⌝ }
-    ensures { λ _. ⌜ now (memory .exit) ≡ filled (now (memory .entry)) place size kind pattern ⌝ }
+fn fill_bytes(memory: &mut [u8], place: usize, size: u32, unit: Unit, pattern: u32)
+    ensures { λ _. ⌜ now (memory .exit) ≡ filled (now (memory .entry)) place size unit pattern ⌝ }
 {
     if memory.len() <= place {
         return;
     }
-    let unit = unit_bytes(kind) as usize;
+    let bytes = unit.size();
     let n = least(size as usize, memory.len() - place);
     let mut i: usize = 0;
     while i < n {
-        memory[place + i] = ((pattern >> (8 * (i % unit))) % 256) as u8;
+        memory[place + i] = ((pattern >> (8 * (i % bytes))) % 256) as u8;
         i += 1;
+    }
+}
+
+// Fills a range where the command is granted.
+fn fill_range(memory: &mut [u8], judged: Judged, size: u32, kind: UnitType, pattern: u32)
+    ensures { λ _. ⌜ now (memory .exit) ≡ memoryIf judged (λ place. typeFilled (now (memory .entry)) place size kind pattern) (now (memory .entry)) ⌝ }
+{
+    match judged {
+        Judged::Granted(place) => match kind {
+            UnitType::Of(unit) => fill_bytes(memory, place, size, unit, pattern),
+            UnitType::Other => {}
+        },
+        Judged::Refused(_) => {}
     }
 }
 
@@ -227,15 +270,11 @@ pub fn fill(
     ensures { λ r. ⌜ r ≡ fillDone windows on register address size kind pattern ⌝ }
     ensures { λ _. ⌜ now (memory .exit) ≡ fillMemory windows (now (memory .entry)) address size kind pattern ⌝ }
 {
-    let judged = judge_fill(windows, address, size, kind);
-    match judged {
-        Judged::Granted(place) => {
-            fill_bytes(memory, place, size, kind, pattern);
-            let fed = feed_fill(on, register, address, size, kind, pattern);
-            answer(judged, register, Event::Nothing, fed)
-        }
-        Judged::Refused(_) => answer(judged, register, Event::Nothing, register),
-    }
+    let unit = unit_of(kind);
+    let judged = judge_fill(windows, address, size, unit);
+    fill_range(memory, judged, size, unit, pattern);
+    let fed = feed_fill(on, register, address, size, kind, pattern);
+    answer(judged, register, Event::Nothing, fed)
 }
 
 // A field of a word, by the START and STOP of a type word.
@@ -251,6 +290,31 @@ fn field_shape(start: u32, stop: u32) -> Shape
     Shape::Bits(Unit::Four, start, stop - start + 1)
 }
 
+// All bits of a unit.
+fn whole(unit: Unit) -> Shape
+    ensures { λ r. ⌜ r ≡ Shape.Bits unit 0 (8 * sizeOf unit) ⌝ }
+{
+    Shape::Bits(unit, 0, 8 * unit_bytes(unit))
+}
+
+// Which bits a type word names, by its type.
+fn type_shape(word: u32, kind: UnitType) -> Shape
+    ensures { λ r. ⌜ r ≡ typeShape word kind ⌝ }
+{
+    match kind {
+        UnitType::Of(unit) => whole(unit),
+        UnitType::Other => {
+            if words::byte_of(word, 0) <= 4 {
+                return field_shape(
+                    words::byte_of(word, 1) as u32,
+                    words::byte_of(word, 2) as u32,
+                );
+            }
+            Shape::Wrong
+        }
+    }
+}
+
 // Which bits a type word names.
 fn shape_of(word: u32) -> Shape
     ensures { λ r. ⌜ r ≡ shapeOf word ⌝ }
@@ -258,17 +322,7 @@ fn shape_of(word: u32) -> Shape
     if words::byte_of(word, 3) != 0 {
         return Shape::Wrong;
     }
-    let kind = words::byte_of(word, 0);
-    match kind {
-        0 => Shape::Bits(Unit::One, 0, 8),
-        1 => Shape::Bits(Unit::Two, 0, 16),
-        2 => Shape::Bits(Unit::Four, 0, 32),
-        3 | 4 => field_shape(
-            words::byte_of(word, 1) as u32,
-            words::byte_of(word, 2) as u32,
-        ),
-        _ => Shape::Wrong,
-    }
+    type_shape(word, unit_of(words::byte_of(word, 0) as u32))
 }
 
 fn judge_shape(windows: [Window; 8], shape: Shape, address: u32) -> Judged
@@ -276,19 +330,14 @@ fn judge_shape(windows: [Window; 8], shape: Shape, address: u32) -> Judged
 {
     match shape {
         Shape::Wrong => Judged::Refused(Refusal::TypeWord),
-        Shape::Bits(unit, _, _) => judge_unit(windows, unit, address),
+        Shape::Bits(unit, _, _) => judge_units(
+            windows,
+            Right::Set,
+            unit,
+            address,
+            unit_bytes(unit),
+        ),
     }
-}
-
-// Is setting bits of the unit at an address granted?
-fn judge_unit(windows: [Window; 8], unit: Unit, address: u32) -> Judged
-    ensures { λ r. ⌜ r ≡ unitJudged windows unit address ⌝ }
-{
-    let size = unit.size() as u32;
-    if address % size != 0 {
-        return Judged::Refused(Refusal::Unaligned);
-    }
-    judge_range(windows, Right::Set, address, size)
 }
 
 // Sets the bits of a shape where the command is granted.

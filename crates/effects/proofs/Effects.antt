@@ -5,12 +5,12 @@ use mathlib.Core.Bool.{Bool, true, false, _&&_}
 use mathlib.Core.List.{List}
 use mathlib.Core.Path.{_≡_, sym, subst, _∙_}
 use native.Mathlib.Omega.{arith}
-use lib.Dec.{leb, lit≤}
+use lib.Dec.{leb}
 use lib.ListN.{length, getD}
 use lib.Seq.{ext-getD}
 use borrow.Author.Tests.{leb-true}
 use Rattle.words.specs.Bits.{bit}
-use Rattle.words.specs.Bytes.{put, bitAt, sizeOf, fieldWritten}
+use Rattle.words.specs.Bytes.{byte, put, bitAt, sizeOf, fieldWritten}
 use Rattle.words.specs.Choice.{pick}
 use Rattle.words.specs.declared.Unit.{Unit as UnitOf}
 use Rattle.words.proofs.Joins.{bit-shifted}
@@ -25,11 +25,13 @@ use Rattle.windows.specs.declared.Window.{Window}
 use Rattle.windows.proofs.Laws.{placed-inside}
 use Rattle.words.proofs.Choice.{both, of-choice}
 use Rattle.script.specs.declared.Refusal.{Refusal}
-use Rattle.commands.specs.Commands.{placed, rangeJudged, loadJudged, loaded, fillJudged, filled, fillMemory, startOf, stopOf, fieldShape, shapeOf, unitJudged, shapeJudged, shapeSet, settingMemory}
+use Rattle.commands.specs.Commands.{placed, rangeJudged, loadJudged, loaded, unitOf, unitsJudged, typeJudged, fillJudged, filled, typeFilled, fillMemory, startOf, stopOf, fieldShape, typeShape, shapeOf, shapeJudged, shapeSet, settingMemory}
 use Rattle.commands.specs.declared.Judged.{Judged}
 use Rattle.commands.specs.declared.Judged.the-variants.{Granted, Refused}
 use Rattle.commands.specs.declared.Shape.{Shape}
 use Rattle.commands.specs.declared.Shape.the-variants.{Bits, Wrong}
+use Rattle.commands.specs.declared.UnitType.{UnitType}
+use Rattle.commands.specs.declared.UnitType.the-variants.{Of, Other}
 use Rattle.effects.specs.Effects.{bytesEffect, loadEffect, fillEffect, settingEffect, Does, DoesInside}
 
 -- bytes written one after the other
@@ -40,10 +42,10 @@ pub load-does : (m : List ℕ) (place : ℕ) (bytes : List ℕ) → Does (loadEf
 unfolding loaded
 load-does m place bytes = put-does m place (length bytes) (λ i. getD bytes i 0)
 
-pub fill-does : (m : List ℕ) (place size kind pattern : ℕ)
-    → Does (fillEffect place size kind pattern) m (filled m place size kind pattern)
+pub fill-does : (m : List ℕ) (place size : ℕ) (unit : UnitOf) (pattern : ℕ)
+    → Does (fillEffect place size (Of unit) pattern) m (filled m place size unit pattern)
 unfolding filled
-fill-does m place size kind pattern = put-does m place size _
+fill-does m place size unit pattern = put-does m place size _
 
 -- bits of a unit written, where they lie in the unit and the unit in the memory
 field-does : (m : List ℕ) (place : ℕ) (unit : UnitOf) (start width value : ℕ)
@@ -70,14 +72,13 @@ field-lies start stop =
     omega (arith, leb-true start stop (parts .0), leb-true stop 31 (parts .1)))
     (λ e. tt)
 
+type-lies : (word : ℕ) (kind : UnitType) → Lies (typeShape word kind)
+type-lies word (Of unit) = omega arith
+type-lies word Other = of-choice Lies _ (λ e. field-lies (startOf word) (stopOf word)) (λ e. tt)
+
 every-shape-lies : (word : ℕ) → Lies (shapeOf word)
 unfolding shapeOf
-every-shape-lies word =
-    of-choice Lies _ (λ e. tt)
-    (λ e. of-choice Lies _ (λ e. lit≤ tt)
-    (λ e. of-choice Lies _ (λ e. lit≤ tt)
-    (λ e. of-choice Lies _ (λ e. lit≤ tt)
-    (λ e. of-choice Lies _ (λ e. field-lies (startOf word) (stopOf word)) (λ e. tt)))))
+every-shape-lies word = of-choice Lies _ (λ e. tt) (λ e. type-lies word (unitOf (byte word 0)))
 
 pub shape-lies : (word : ℕ) {unit : UnitOf} {start width : ℕ} → shapeOf word ≡ Bits unit start width → start + width ≤ 8 * sizeOf unit
 shape-lies word e = subst Lies e (every-shape-lies word)
@@ -125,24 +126,31 @@ module _ (windows : List Window) (m : List ℕ) (lent : length m ≡ sumOf windo
   load-granted address bytes {place} e =
       record { does = load-does m place bytes; lies = omega (arith, range-inside _ address (length bytes) e) }
 
+  -- whole units that are granted lie inside the memory
+  units-inside : (wanted : Right) (unit : UnitOf) (address size : ℕ) {place : ℕ} → unitsJudged windows wanted unit address size ≡ Granted place
+      → place + size ≤ length m
+  unfolding unitsJudged
+  units-inside wanted unit address size e = range-inside wanted address size (past-refusal _ _ e)
+
+  -- a type that is granted is a unit
+  type-granted : (kind : UnitType) (address size pattern : ℕ) {place : ℕ} → typeJudged windows address size kind ≡ Granted place
+      → DoesInside (fillEffect place size kind pattern) m (typeFilled m place size kind pattern)
+  type-granted Other address size pattern e = absurd (let z : _≡_ {A = ℕ} 0 1 = cc in omega arith)
+  type-granted (Of unit) address size pattern {place} e =
+      record { does = fill-does m place size unit pattern; lies = omega (arith, units-inside _ unit address size e) }
+
   pub fill-granted : (address size kind pattern : ℕ) {place : ℕ} → fillJudged windows address size kind ≡ Granted place
-      → DoesInside (fillEffect place size kind pattern) m (fillMemory windows m address size kind pattern)
+      → DoesInside (fillEffect place size (unitOf kind) pattern) m (fillMemory windows m address size kind pattern)
   unfolding fillJudged fillMemory
-  fill-granted address size kind pattern {place} e =
-      rw e
-      (record {
-        does = fill-does m place size kind pattern;
-        lies = omega (arith, range-inside _ address size (past-refusal _ _ (past-refusal _ _ (past-refusal _ _ e))));
-      })
+  fill-granted address size kind pattern e = rw e (type-granted (unitOf kind) address size pattern e)
 
   -- a shape that is granted is not wrong, and its unit lies inside the memory
   shape-granted : (shape : Shape) → Lies shape → (address value : ℕ) {place : ℕ}
       → shapeJudged windows shape address ≡ Granted place
       → DoesInside (settingEffect place shape value) m (shapeSet m place shape value)
-  unfolding unitJudged
   shape-granted Wrong lie address value e = absurd (let z : _≡_ {A = ℕ} 0 1 = cc in omega arith)
   shape-granted (Bits unit start width) lie address value {place} e =
-      let fit : place + sizeOf unit ≤ length m = range-inside _ address (sizeOf unit) (past-refusal _ _ e) in
+      let fit : place + sizeOf unit ≤ length m = units-inside _ unit address (sizeOf unit) e in
       record { does = field-does m place unit start width value lie fit; lies = omega arith }
 
   pub setting-granted : (word address value : ℕ) {place : ℕ} → shapeJudged windows (shapeOf word) address ≡ Granted place

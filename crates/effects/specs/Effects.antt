@@ -6,11 +6,12 @@ use mathlib.Core.List.{List}
 use mathlib.Core.Path.{_≡_}
 use lib.ListN.{length, getD}
 use Rattle.words.specs.Bits.{bit, within}
-use Rattle.words.specs.Bytes.{byte, bitAt}
+use Rattle.words.specs.Bytes.{byte, bitAt, sizeOf}
 use Rattle.words.specs.Choice.{pick}
-use Rattle.commands.specs.Commands.{unitOf}
 use Rattle.commands.specs.declared.Shape.{Shape}
 use Rattle.commands.specs.declared.Shape.the-variants.{Bits, Wrong}
+use Rattle.commands.specs.declared.UnitType.{UnitType}
+use Rattle.commands.specs.declared.UnitType.the-variants.{Of, Other}
 
 -- a run of bits of memory: its first bit, how many they are, and what the i-th of them becomes
 pub record Effect : Type 0 where
@@ -39,8 +40,9 @@ abbrev pub loadEffect : ℕ → List ℕ → Effect
 loadEffect place bytes = bytesEffect place (length bytes) (λ i. getD bytes i 0)
 
 -- Fill writes the low bytes of the pattern, again and again
-abbrev pub fillEffect : ℕ → ℕ → ℕ → ℕ → Effect
-fillEffect place size kind pattern = bytesEffect place size (λ i. byte pattern (i % unitOf kind))
+abbrev pub fillEffect : ℕ → ℕ → UnitType → ℕ → Effect
+fillEffect place size Other pattern = noEffect
+fillEffect place size (Of unit) pattern = bytesEffect place size (λ i. byte pattern (i % sizeOf unit))
 
 -- Boot Table writes the bits of its shape, and no other bit of the unit
 abbrev pub settingEffect : ℕ → Shape → ℕ → Effect

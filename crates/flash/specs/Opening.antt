@@ -13,9 +13,13 @@ use Rattle.script.specs.declared.Refusal.the-variants.{None, Map, Image, Magic}
 use Rattle.commands.specs.Commands.{multiple}
 use Rattle.flash.specs.declared.Opened.{Opened}
 
--- an image's length is a multiple of 4 in 4..65,536
+-- the longest image, in bytes
+abbrev pub longest : ℕ
+longest = 65536
+
+-- an image's length is a multiple of 4 from 4 to the longest
 unfoldable pub goodLength : ℕ → Bool
-goodLength n = multiple n 4 && leb 4 n && leb n 65536
+goodLength n = multiple n 4 && leb 4 n && leb n longest
 
 -- the first word of an image
 abbrev pub magic : ℕ

@@ -17,11 +17,10 @@ use Rattle.script.specs.declared.Command.{Command}
 use Rattle.script.specs.declared.Command.the-variants as command
 use Rattle.script.specs.declared.Event.the-variants.{Nothing}
 use Rattle.script.specs.declared.Found.the-variants.{Known}
-use Rattle.script.specs.declared.Mode.{Mode}
 use Rattle.script.specs.declared.Mode.the-variants.{Flash, Sent}
 use Rattle.script.specs.declared.Refusal.{Refusal}
 use Rattle.script.specs.declared.Refusal.the-variants.{None}
-use Rattle.script.proofs.Rows.{everyRow, found-passes}
+use Rattle.script.proofs.Counts.{rowIs, row-is}
 use Rattle.commands.specs.Commands.{loadJudged, loaded, loadFed, soughtFrom}
 use Rattle.commands.specs.declared.Done.{Done}
 use Rattle.commands.specs.declared.Judged.{Judged}
@@ -45,33 +44,6 @@ use Rattle.sent.proofs.ByTheTable.{after-append, by-the-table}
 use Rattle.sent.proofs.Laws.{load-in-pieces}
 use Rattle.modes.specs.Modes.{Alike, Same, wordsAt, Before, sentWith, SameLoad, requestSent, RequestByMode, RowsOf, BothModes, SharedRows}
 use Rattle.modes.proofs.ImageWords.{data-bytes, words-length}
-
--- the table's rows, by command: how many words; none of a command that the mode does not allow
-rowIs : Mode → Command → ℕ → Bool
-rowIs mode command.Load n = eqb n 2
-rowIs mode command.Fill n = eqb n 4
-rowIs mode command.BootTable n = eqb n 4
-rowIs mode command.Enable n = eqb n 0
-rowIs mode command.Disable n = eqb n 0
-rowIs Flash command.Request n = eqb n 2
-rowIs Sent command.Request n = eqb n 0
-rowIs Flash command.StartOver n = false
-rowIs Sent command.StartOver n = eqb n 0
-rowIs mode command.Jump n = eqb n 1
-rowIs mode command.JumpAndClose n = eqb n 1
-rowIs Flash command.Ping n = false
-rowIs Sent command.Ping n = eqb n 1
-rowIs Flash command.SequentialRead n = eqb n 0
-rowIs Sent command.SequentialRead n = false
-
-every-row : (mode : Mode) → everyRow mode (rowIs mode) rows ≡ true
-unfolding everyRow rows rowIs
-every-row Flash = refl
-every-row Sent = refl
-
-row-is : (mode : Mode) (opcode : ℕ) (c : Command) (words : ℕ) → lookedUp opcode mode ≡ Known c words → rowIs mode c words ≡ true
-unfolding lookedUp
-row-is mode opcode c words found = found-passes mode (rowIs mode) rows opcode c words (every-row mode) found
 
 -- the flash session that is like a sent one
 abbrev like : Core → ℕ → ℕ → ℕ → ℕ → Session

@@ -2,29 +2,26 @@
 use Prim.Native.Nat.{ℕ, _<_, _^_}
 use mathlib.Core.Bool.{Bool, true}
 use mathlib.Core.List.{List, [], _++_}
+use mathlib.Core.Logic.{_≢_}
 use mathlib.Core.Path.{_≡_, refl, sym, ap, subst, _∙_}
 use native.Mathlib.Omega.{arith}
-use lib.Dec.{eqb, lit<}
+use lib.Dec.{eqb}
 use lib.ListN.{length}
-use borrow.Author.Tests.{ne-eqb}
+use borrow.Author.Tests.{ne-eqb, eqb-false}
 use Rattle.words.specs.Bytes.{byte}
 use Rattle.words.specs.Choice.{pick}
-use Rattle.words.proofs.Choice.{passed, of-choice}
-use Rattle.windows.specs.Window.{sumOf, placeOf}
-use Rattle.windows.specs.declared.Place.{Place}
-use Rattle.windows.specs.declared.Place.the-variants.{At, Nowhere}
-use Rattle.windows.specs.declared.Right.{Right}
+use Rattle.words.proofs.Choice.{passed}
+use Rattle.windows.specs.Window.{sumOf}
 use Rattle.windows.specs.declared.Window.{Window}
 use Rattle.script.specs.Answers.{numberOf}
 use Rattle.script.specs.declared.Command.the-variants as command
 use Rattle.script.specs.declared.Event.{Event}
 use Rattle.script.specs.declared.Refusal.{Refusal}
 use Rattle.script.specs.declared.Refusal.the-variants as refusal
-use Rattle.commands.specs.Commands.{placed, rangeJudged, doneIf, loadJudged, fillJudged, fillDone, unitJudged, shapeOf, shapeJudged, settingDone}
+use Rattle.commands.specs.Commands.{doneIf, fillDone, shapeOf, settingDone}
+use Rattle.commands.proofs.Judging.{EachRefusal, Passes, load-passes, fill-passes, shape-passes}
 use Rattle.commands.specs.declared.Judged.{Judged}
 use Rattle.commands.specs.declared.Judged.the-variants.{Granted, Refused}
-use Rattle.commands.specs.declared.Shape.{Shape}
-use Rattle.commands.specs.declared.Shape.the-variants.{Bits, Wrong}
 use Rattle.sent.specs.Machine.{after, loadBegun, wordStep}
 use Rattle.sent.specs.declared.Core.{Core}
 use Rattle.sent.specs.declared.Phase.{Phase}
@@ -42,33 +39,25 @@ pub record GrantedAt (judged : Judged) : Type 0 where
 
 -- what is judged refused has a refusal's number
 abbrev Numbered : Judged → Type 0
-Numbered (Granted place) = Unit {0}
-Numbered (Refused q) = 0 < numberOf q
+Numbered j = Passes (λ (q : Refusal). numberOf q ≢ 0) j
 
-range-numbered : (windows : List Window) (wanted : Right) (address size : ℕ) → Numbered (rangeJudged windows wanted address size)
-unfolding rangeJudged
-range-numbered windows wanted address size = found (placeOf windows wanted address size)
-  where
-    found : (place : Place) → Numbered (placed refusal.Range place)
-    found (At place) = tt
-    found Nowhere = lit< tt
-
-shape-numbered : (windows : List Window) (shape : Shape) (address : ℕ) → Numbered (shapeJudged windows shape address)
-unfolding unitJudged
-shape-numbered windows Wrong address = lit< tt
-shape-numbered windows (Bits unit start width) address = of-choice Numbered _ (λ e. lit< tt) (λ e. range-numbered windows _ address _)
+numbers : EachRefusal (λ (q : Refusal). numberOf q ≢ 0)
+numbers =
+    record {
+      type-word = eqb-false 8 0 refl;
+      unaligned = eqb-false 9 0 refl;
+      range = eqb-false 7 0 refl;
+      entry = eqb-false 10 0 refl;
+    }
 
 judged-numbered : (windows : List Window) (c : Piece) → Numbered (judgedOf windows c)
-unfolding loadJudged fillJudged
-judged-numbered windows (load address bytes pads) = range-numbered windows _ address (length bytes)
-judged-numbered windows (fill address size kind pattern) =
-    of-choice Numbered _ (λ e. lit< tt)
-    (λ e. of-choice Numbered _ (λ e. lit< tt) (λ e. of-choice Numbered _ (λ e. lit< tt) (λ e. range-numbered windows _ address size)))
-judged-numbered windows (setting word address value delay) = shape-numbered windows (shapeOf word) address
+judged-numbered windows (load address bytes pads) = load-passes _ numbers windows address (length bytes)
+judged-numbered windows (fill address size kind pattern) = fill-passes _ numbers windows address size kind
+judged-numbered windows (setting word address value delay) = shape-passes _ numbers windows (shapeOf word) address
 
 -- a load, or a command done at its last word, that is not refused
-none-is-none : (q : Refusal) → q ≡ refusal.None → 0 < numberOf q → ⊥
-none-is-none q e h = let z : numberOf q ≡ 0 = ap numberOf e in omega arith
+none-is-none : (q : Refusal) → q ≡ refusal.None → numberOf q ≢ 0 → ⊥
+none-is-none q e h = h (ap numberOf e)
 
 load-not-refused : (k : Core) (address size : ℕ) (judged : Judged) → Numbered judged → loadBegun k address size judged .refusal ≡ refusal.None
     → GrantedAt judged
@@ -80,7 +69,7 @@ done-not-refused : (k : Core) (judged : Judged) (register : ℕ) (event : Event)
 unfolding after
 done-not-refused k (Granted place) register event fed h e = record { place = place; granted = refl }
 done-not-refused k (Refused q) register event fed h e =
-    absurd (none-is-none q (sym (ap (λ (t : Taken). t .refusal) (passed (eqb (numberOf q) 0) _ _ (ne-eqb (numberOf q) 0 (λ z. omega (arith, z, h))))) ∙ e) h)
+    absurd (none-is-none q (sym (ap (λ (t : Taken). t .refusal) (passed (eqb (numberOf q) 0) _ _ (ne-eqb (numberOf q) 0 h))) ∙ e) h)
 
 module _ (windows : List Window) (on : Bool) where
   -- the word that decides, after some bytes

@@ -6,8 +6,9 @@ use mathlib.Core.Path.{_≡_, refl, sym, ap, _∙_}
 use lib.Dec.{eqb, lit<}
 use lib.ListN.{length, getD, replicate}
 use borrow.Author.Tests.{eqb-false}
+use Rattle.script.specs.declared.Event.the-variants.{Nothing}
 use Rattle.script.specs.declared.Refusal.{Refusal}
-use Rattle.script.specs.declared.Refusal.the-variants.{None}
+use Rattle.script.specs.declared.Refusal.the-variants.{None, Memory}
 use Rattle.words.specs.Bits.{bit, join, withField, within}
 use Rattle.words.specs.Bytes.{byte, number, bytesAt, put, fits, fieldFits, fieldWritten}
 use Rattle.words.specs.Choice.{pick}
@@ -15,14 +16,16 @@ use Rattle.checksum.specs.Checksum as checksum
 use Rattle.windows.specs.Window.{hasRight, inside, grantsRange, placeFrom, placeOf, sumOf}
 use Rattle.windows.specs.Map.{soundWindow, allSound, rising, goodMap, keptOf}
 use Rattle.script.specs.Opcodes.{rows, rowServes, foundIn, lookedUp}
-use Rattle.commands.specs.Commands.{multiple, rangeJudged, loadJudged, loaded, fieldShape, shapeOf, unitJudged, settingDone, settingMemory}
+use Rattle.commands.specs.Commands.{multiple, rangeJudged, loadJudged, loaded, unitOf, unitsJudged, fieldShape, shapeOf, settingDone, settingMemory}
 use Rattle.sent.specs.Line.{pushed, carried, isStart, byteStep}
 use Rattle.sent.specs.Machine.{after, awaited, acknowledging, wordStep}
 use Rattle.sent.specs.Opening.{openedBy}
-use Rattle.retries.specs.Example.{before, start, sent, abandoned, repeated, Worked, missing, OneBitMissed, middle, nothing, InTheMiddle, started, NothingFollows}
-use Rattle.retries.specs.Feeding.{State, Heard, register, fed, answers, NoneRefused}
+use Rattle.sent.specs.Replies.{silence, startAnswer}
+use Rattle.retries.specs.Example.{windows, before, start, sent, abandoned, repeated, Worked, missing, OneBitMissed, middle, nothing, InTheMiddle, started, NothingFollows, shorter, short, MemoryTooShort}
+use Rattle.retries.specs.Feeding.{State, Heard, register, heard, fed, answers, NoneRefused}
 use Rattle.retries.specs.Pieces.{bytesOf, allBytes, AllSendable, effectOf, someWrites}
-use Rattle.retries.specs.Retries.{Awaits, Begins, attemptBytes, Retried}
+use Rattle.retries.specs.Retries.{Awaits, sinceOpening, Reached, Idle, AtStart, JustAfter, after-start, after-enable, attemptBytes, Retried}
+use Rattle.retries.proofs.Beginnings.{beginnings}
 use Rattle.retries.proofs.Feeding.{none-refused-by}
 use Rattle.retries.proofs.Memory.{allSmall, bytes-by}
 use Rattle.retries.proofs.Retries.{retries-leave-no-trace}
@@ -52,7 +55,8 @@ eight e f = cc
 
 -- all that is computed, under one opening of the definitions
 record Computed : Type 0 where
-  begins : Begins start
+  answered : heard (sinceOpening 1 windows before []) 0x58 .reply ≡ startAnswer
+  idle : Idle started
   tried : refusals start (attemptBytes abandoned) ≡ quiet (attemptBytes abandoned)
   after-tried : refusals (fed start (attemptBytes abandoned)) (allBytes repeated) ≡ quiet (allBytes repeated)
   same-bits : (p : ℕ) → someWrites (start .session .core .windows) (abandoned .pieces) p ≡ someWrites (start .session .core .windows) repeated p
@@ -65,21 +69,20 @@ record Computed : Type 0 where
   middle-tried : refusals middle (attemptBytes nothing) ≡ quiet (attemptBytes nothing)
   after-middle : refusals (fed middle (attemptBytes nothing)) (allBytes repeated) ≡ quiet (allBytes repeated)
   register-lost : eqb (register (fed middle (attemptBytes nothing ++ allBytes repeated))) (register (fed middle (allBytes repeated))) ≡ false
-  begins-started : Begins started
   started-tried : refusals started (attemptBytes nothing) ≡ quiet (attemptBytes nothing)
   acknowledged-one : fed started (attemptBytes nothing ++ []) .session .core .begun ≡ true
   acknowledged-none : fed started [] .session .core .begun ≡ false
+  short-at-start : AtStart short
+  short-refused : heard short 0x58 ≡ record { refusal = Memory; reply = silence; event = Nothing }
 
 computed : Computed
 unfolding bit join withField within byte number bytesAt put fits fieldFits fieldWritten pick checksum.shifted checksum.fedBit checksum.fed
     checksum.fedWords hasRight inside grantsRange placeFrom placeOf sumOf soundWindow allSound rising goodMap keptOf rows rowServes foundIn
-    lookedUp multiple rangeJudged loadJudged loaded fieldShape shapeOf unitJudged settingDone settingMemory pushed carried isStart byteStep
-    after awaited acknowledging wordStep openedBy start fed bytesOf allBytes answers middle started allSmall effectOf someWrites
+    lookedUp multiple rangeJudged loadJudged loaded unitOf unitsJudged fieldShape shapeOf settingDone settingMemory pushed carried isStart byteStep
+    after awaited acknowledging wordStep openedBy start fed bytesOf allBytes answers middle started short allSmall effectOf someWrites
 computed = record {
-  begins = record {
-    awaits = record { running = refl; lent = refl; bytes = bytes-by before refl; started = refl; fresh = (refl, refl); opcode = refl };
-    rewound = refl;
-  };
+  answered = refl;
+  idle = record { running = refl; started = refl; fresh = refl; opcode = refl };
   tried = refl;
   after-tried = refl;
   same-bits = λ p. refl;
@@ -99,14 +102,24 @@ computed = record {
   middle-tried = refl;
   after-middle = refl;
   register-lost = refl;
-  begins-started = record {
-    awaits = record { running = refl; lent = refl; bytes = bytes-by before refl; started = refl; fresh = (refl, refl); opcode = refl };
-    rewound = refl;
-  };
   started-tried = refl;
   acknowledged-one = refl;
   acknowledged-none = refl;
+  short-at-start = record { running = refl; before = refl; fresh = refl };
+  short-refused = refl;
 }
+
+-- bytes lead there from an opening, and the attempts begin just after the start word and just after an Enable
+reached : (m bytes : List ℕ) → allSmall m ≡ true → Reached (sinceOpening 1 windows m bytes)
+reached m bytes small = record { count = 1; windows = windows; memory = m; sent = bytes; bytes = bytes-by m small; leads = refl }
+
+started-after : JustAfter started
+unfolding started fed allSmall
+started-after = after-start 0x58 (reached before [] refl) (computed .answered)
+
+start-after : JustAfter start
+unfolding start started fed allSmall
+start-after = after-enable (reached before (0x58 ∷ []) refl) (computed .idle)
 
 -- what follows the attempts
 repeat-sendable : (field : ℕ) → field < 2 ^ 32 → AllSendable (sent field 1 2 (0x11 ∷ 0x22 ∷ 0x33 ∷ []))
@@ -119,7 +132,7 @@ unfolding allSmall
 worked =
     let retried : Retried start (attemptBytes abandoned) (abandoned .pieces) repeated =
     record {
-      begins = computed .begins;
+      begins = beginnings .begins start start-after;
       accepted = record {
         sendable = (sendable 0x00060403 2 0xF (1 ∷ 2 ∷ 3 ∷ []) (lit< tt) (lit< tt) (lit< tt) refl refl, repeat-sendable 0x00060403 (lit< tt));
         attempt-accepted = none-refused-by start (attemptBytes abandoned) (computed .tried);
@@ -128,6 +141,7 @@ worked =
       covered = λ p h. sym (computed .same-bits p) ∙ h;
     } in
     record {
+      just-after = start-after;
       retried = retried;
       no-trace = retries-leave-no-trace start abandoned _ _ retried;
       after-attempt = computed .after-attempt;
@@ -140,7 +154,7 @@ pub one-bit-missed : OneBitMissed
 unfolding allSmall
 one-bit-missed =
     record {
-      begins = computed .begins;
+      begins = beginnings .begins start start-after;
       accepted = record {
         sendable = (sendable 0x00060403 2 0xF (1 ∷ 2 ∷ 3 ∷ []) (lit< tt) (lit< tt) (lit< tt) refl refl, repeat-sendable 0x00050403 (lit< tt));
         attempt-accepted = none-refused-by start (attemptBytes abandoned) (computed .tried);
@@ -169,7 +183,8 @@ pub nothing-follows : NothingFollows
 unfolding AllSendable allBytes NoneRefused
 nothing-follows =
     record {
-      begins = computed .begins-started;
+      just-after = started-after;
+      begins = beginnings .begins started started-after;
       accepted = record {
         sendable = (tt, tt);
         attempt-accepted = none-refused-by started (attemptBytes nothing) (computed .started-tried);
@@ -179,3 +194,8 @@ nothing-follows =
           false≢true
           (sym (computed .acknowledged-none) ∙ sym (ap (λ (x : State). x .session .core .begun) (none .same-state)) ∙ computed .acknowledged-one);
     }
+
+-- the length of memory
+pub memory-too-short : MemoryTooShort
+unfolding short allSmall
+memory-too-short = record { reached = reached shorter [] refl; at-start = computed .short-at-start; refused = computed .short-refused }

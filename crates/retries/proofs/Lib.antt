@@ -4,6 +4,7 @@ pub mod Feeding
 pub mod Instance
 pub mod Line
 pub mod Memory
+pub mod Reached
 pub mod Retries
 pub mod Several
 pub mod Taking

@@ -1,45 +1,25 @@
--- Commands on memory: a load in two parts is one load; memory stays bytes; and each bit of memory after several commands is what the last of
--- them that writes it gave, whatever it was before.
+-- Commands on memory: it keeps its length and stays bytes, since a command does nothing but put bytes into it.
 use Prim.Native.Nat.{ℕ, zero, suc, _+_, _<_}
 use mathlib.Core.Bool.{Bool, true, _&&_}
-use mathlib.Core.List.{List, [], _∷_, _++_}
-use mathlib.Core.Path.{_≡_, refl, sym, ap, ap₂, fun-ext, _∙_}
+use mathlib.Core.List.{List, [], _∷_}
+use mathlib.Core.Path.{_≡_, refl}
 use native.Mathlib.Omega.{arith}
-use native.Mathlib.Nat.{add-assoc, add-zero, add-suc}
 use lib.Dec.{ltb, lit<}
-use lib.ListN.{length, getD, set, length-append, List·getD-append}
-use lib.Seq.{getD-append-add}
+use lib.ListN.{length, getD, set, take}
 use borrow.Author.Tests.{ltb-true}
 use Rattle.words.specs.Bytes.{byte, put, sizeOf, fieldWritten}
 use Rattle.words.proofs.Choice.{both, of-choice}
-use Rattle.commands.specs.Commands.{loaded, filled, shapeSet}
+use Rattle.words.proofs.Puts.{length-put}
+use Rattle.windows.specs.declared.Window.{Window}
+use Rattle.commands.specs.Commands.{memoryIf, loadJudged, loaded, unitOf, fillJudged, filled, typeFilled, fillMemory, shapeOf, shapeJudged, shapeSet, settingMemory}
+use Rattle.commands.specs.declared.Judged.{Judged}
+use Rattle.commands.specs.declared.Judged.the-variants.{Granted, Refused}
 use Rattle.commands.specs.declared.Shape.{Shape}
 use Rattle.commands.specs.declared.Shape.the-variants.{Bits, Wrong}
-use Rattle.retries.specs.Pieces.{AreBytes}
-
--- only the values below the count are put
-put-same : (m : List ℕ) (at n : ℕ) {f g : ℕ → ℕ} → ((i : ℕ) → i < n → f i ≡ g i) → put m at n f ≡ put m at n g
-unfolding put
-put-same m at zero same = refl
-put-same m at (suc n) same =
-    ap₂ (λ (l : List ℕ) (v : ℕ). set l (at + n) v) (put-same m at n (λ i h. same i (omega arith))) (same n (omega arith))
-
--- values put one after the other in two parts
-put-append : (m : List ℕ) (at n k : ℕ) (f : ℕ → ℕ) → put (put m at n f) (at + n) k (λ i. f (n + i)) ≡ put m at (n + k) f
-unfolding put
-put-append m at n zero f = rw add-zero refl
-put-append m at n (suc k) f =
-    rw (add-suc n k, ← add-assoc at n k) (ap (λ (l : List ℕ). set l (at + n + k) (f (n + k))) (put-append m at n k f))
-
--- a load in two parts
-pub loaded-append : (m : List ℕ) (place : ℕ) (bs cs : List ℕ)
-    → loaded (loaded m place bs) (place + length bs) cs ≡ loaded m place (bs ++ cs)
-unfolding loaded
-loaded-append m place bs cs =
-    ap₂ (λ (l : List ℕ) (f : ℕ → ℕ). put l (place + length bs) (length cs) f)
-    (put-same m place (length bs) (λ i h. sym (List·getD-append bs cs 0 i h))) (fun-ext (λ i. sym (getD-append-add bs cs i 0)))
-    ∙ put-append m place (length bs) (length cs) (λ i. getD (bs ++ cs) i 0)
-    ∙ ap (λ (n : ℕ). put m place n (λ i. getD (bs ++ cs) i 0)) (sym (length-append bs cs))
+use Rattle.commands.specs.declared.UnitType.{UnitType}
+use Rattle.commands.specs.declared.UnitType.the-variants.{Of, Other}
+use Rattle.sent.specs.Machine.{dataBytes}
+use Rattle.retries.specs.Pieces.{four, AreBytes}
 
 -- bytes by a test
 unfoldable pub allSmall : List ℕ → Bool
@@ -69,16 +49,64 @@ byte-small : (v i : ℕ) → byte v i < 256
 unfolding byte
 byte-small v i = omega arith
 
-pub loaded-bytes : (m : List ℕ) (place : ℕ) (bs : List ℕ) → AreBytes bs → AreBytes m → AreBytes (loaded m place bs)
+-- bytes written over memory: it keeps its length, and stays bytes
+pub record Overwritten (m later : List ℕ) : Type 0 where
+  pub same-length : length later ≡ length m
+  pub bytes : AreBytes m → AreBytes later
+
+pub untouched : {m : List ℕ} → Overwritten m m
+untouched = record { same-length = refl; bytes = λ are. are }
+
+put-over : (m : List ℕ) (at n : ℕ) (f : ℕ → ℕ) → ((i : ℕ) → f i < 256) → Overwritten m (put m at n f)
+put-over m at n f small = record { same-length = length-put m at n f; bytes = put-bytes m at n f small }
+
+loaded-over : (m : List ℕ) (place : ℕ) (bs : List ℕ) → AreBytes bs → Overwritten m (loaded m place bs)
 unfolding loaded
-loaded-bytes m place bs small are = put-bytes m place (length bs) _ small are
+loaded-over m place bs small = put-over m place (length bs) _ small
 
-pub filled-bytes : (m : List ℕ) (place size kind pattern : ℕ) → AreBytes m → AreBytes (filled m place size kind pattern)
+filled-over : (m : List ℕ) (place size : ℕ) (kind : UnitType) (pattern : ℕ) → Overwritten m (typeFilled m place size kind pattern)
 unfolding filled
-filled-bytes m place size kind pattern are = put-bytes m place size _ (λ i. byte-small pattern _) are
+filled-over m place size Other pattern = untouched
+filled-over m place size (Of unit) pattern = put-over m place size _ (λ i. byte-small pattern _)
 
-pub set-shape-bytes : (m : List ℕ) (place : ℕ) (shape : Shape) (value : ℕ) → AreBytes m → AreBytes (shapeSet m place shape value)
+set-shape-over : (m : List ℕ) (place : ℕ) (shape : Shape) (value : ℕ) → Overwritten m (shapeSet m place shape value)
 unfolding fieldWritten
-set-shape-bytes m place Wrong value are = are
-set-shape-bytes m place (Bits unit start width) value are =
-    of-choice AreBytes _ (λ e. put-bytes m place (sizeOf unit) _ (λ i. byte-small _ i) are) (λ e. are)
+set-shape-over m place Wrong value = untouched
+set-shape-over m place (Bits unit start width) value =
+    of-choice (Overwritten m) _ (λ e. put-over m place (sizeOf unit) _ (λ i. byte-small _ i)) (λ e. untouched)
+
+-- so of a command, granted or refused
+if-over : (m : List ℕ) (judged : Judged) (writing : ℕ → List ℕ) → ((place : ℕ) → Overwritten m (writing place)) → Overwritten m (memoryIf judged writing m)
+if-over m (Granted place) writing over = over place
+if-over m (Refused q) writing over = untouched
+
+pub load-over : (windows : List Window) (m : List ℕ) (address : ℕ) (bs : List ℕ) → AreBytes bs
+    → Overwritten m (memoryIf (loadJudged windows address (length bs)) (λ place. loaded m place bs) m)
+load-over windows m address bs small = if-over m (loadJudged windows address (length bs)) _ (λ place. loaded-over m place bs small)
+
+pub fill-over : (windows : List Window) (m : List ℕ) (address size kind pattern : ℕ) → Overwritten m (fillMemory windows m address size kind pattern)
+unfolding fillMemory
+fill-over windows m address size kind pattern =
+    if-over m (fillJudged windows address size kind) _ (λ place. filled-over m place size (unitOf kind) pattern)
+
+pub setting-over : (windows : List Window) (m : List ℕ) (word address value : ℕ) → Overwritten m (settingMemory windows m word address value)
+unfolding settingMemory
+setting-over windows m word address value =
+    if-over m (shapeJudged windows (shapeOf word) address) _ (λ place. set-shape-over m place (shapeOf word) value)
+
+-- the bytes of a data word
+take-bytes : (n : ℕ) (bs : List ℕ) → AreBytes bs → AreBytes (take n bs)
+take-bytes zero bs are i = lit< tt
+take-bytes (suc n) [] are i = are i
+take-bytes (suc n) (b ∷ bs) are zero = are zero
+take-bytes (suc n) (b ∷ bs) are (suc i) = take-bytes n bs (λ j. are (suc j)) i
+
+four-bytes : (w : ℕ) → AreBytes (four w)
+four-bytes w zero = byte-small w 0
+four-bytes w (suc zero) = byte-small w 1
+four-bytes w (suc (suc zero)) = byte-small w 2
+four-bytes w (suc (suc (suc zero))) = byte-small w 3
+four-bytes w (suc (suc (suc (suc i)))) = lit< tt
+
+pub data-over : (m : List ℕ) (place word left : ℕ) → Overwritten m (loaded m place (dataBytes word left))
+data-over m place word left = loaded-over m place (dataBytes word left) (take-bytes left (four word) (four-bytes word))

@@ -15,8 +15,8 @@ use Rattle.sent.specs.Machine.{acknowledging, wordStep}
 use Rattle.sent.specs.Replies.{oneWord, wordThen}
 use Rattle.retries.specs.Feeding.{State, Heard, register, fed, answers, NoneRefused}
 use Rattle.retries.specs.Pieces.{Piece, four, allBytes, AreBytes, AllSendable, Covers, requestOpcode, startOverOpcode}
-use Rattle.retries.specs.Retries.{Begins, Attempt, askingOpcode, attemptBytes, attemptsBytes, attemptsPieces, Reports, NoTrace, Retried, RetriesLeaveNoTrace, ManyRetriesLeaveNoTrace}
-use Rattle.retries.proofs.Beginnings.{awaits-awaiting}
+use Rattle.retries.specs.Retries.{Begins, Attempt, askingOpcode, attemptBytes, attemptsBytes, attemptsPieces, Reports, NoTrace, Retried, RetriesLeaveNoTrace, ManyRetriesLeaveNoTrace, RetriesSinceOpening}
+use Rattle.retries.proofs.Beginnings.{awaits-awaiting, beginnings}
 use Rattle.retries.proofs.Feeding.{fed-append, answers-append, none-refused-append, Goes, _then_}
 use Rattle.retries.proofs.Several.{registersOf, memoriesOf, heardAll, begunBy, AllGranted, sendable-append, granted-append, memories-append, several-length, written-over, several-go, several-accepted}
 use Rattle.retries.proofs.Taking.{awaiting, opcode-goes, request-goes, start-over-goes}
@@ -154,3 +154,8 @@ unfolding attemptsBytes attemptsPieces
 retries-leave-no-trace x a c cs =
     subst₂ (λ (bytes : List ℕ) (pieces : List Piece). Retried x bytes pieces (c ∷ cs) → NoTrace x bytes (allBytes (c ∷ cs)))
     (append-nil (attemptBytes a)) (append-nil (a .pieces)) (many-retries-leave-no-trace x (a ∷ []) c cs)
+
+-- from an opening on
+pub retries-since-opening : RetriesSinceOpening
+retries-since-opening x a c cs after accepted covered =
+    retries-leave-no-trace x a c cs (record { begins = beginnings .begins x after; accepted = accepted; covered = covered })

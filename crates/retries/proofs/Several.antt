@@ -10,14 +10,13 @@ use Rattle.words.specs.Bytes.{bitAt}
 use Rattle.words.specs.Choice.{pick}
 use Rattle.windows.specs.Window.{sumOf}
 use Rattle.windows.specs.declared.Window.{Window}
-use Rattle.commands.specs.Commands.{fillMemory, settingMemory, shapeOf}
 use Rattle.effects.specs.Effects.{writes, becomes, Does}
 use Rattle.effects.proofs.Effects.{load-granted, fill-granted, setting-granted, same-bits}
 use Rattle.retries.specs.Feeding.{State, Heard, NoneRefused}
 use Rattle.retries.specs.Pieces.{Piece, load, fill, setting, bytesOf, allBytes, AreBytes, Sendable, AllSendable, judgedOf, effectOf, someWrites, Covers}
 use Rattle.retries.proofs.Accepted.{GrantedAt, piece-accepted}
 use Rattle.retries.proofs.Feeding.{none-refused-append, Goes, nothing-goes, _then_}
-use Rattle.retries.proofs.Memory.{loaded-bytes, filled-bytes, set-shape-bytes}
+use Rattle.retries.proofs.Memory.{load-over, fill-over, setting-over}
 use Rattle.retries.proofs.Taking.{registerOf, memoryOf, heardOf, awaiting, piece-goes}
 
 -- the register and the memory after several commands, what is heard of them, and whether an opcode has been acknowledged
@@ -93,11 +92,10 @@ module _ (windows : List Window) where
   piece-does m lent (setting word address value delay) g = rw (g .granted) (setting-granted windows m lent word address value (g .granted) .does)
 
   -- and leaves bytes
-  piece-bytes : (m : List ℕ) → AreBytes m → (c : Piece) → Sendable c → GrantedAt (judgedOf windows c) → AreBytes (memoryOf windows c m)
-  unfolding fillMemory settingMemory
-  piece-bytes m are (load address bytes pads) sendable g = rw (g .granted) (loaded-bytes m (g .place) bytes (sendable .2) are)
-  piece-bytes m are (fill address size kind pattern) sendable g = rw (g .granted) (filled-bytes m (g .place) size kind pattern are)
-  piece-bytes m are (setting word address value delay) sendable g = rw (g .granted) (set-shape-bytes m (g .place) (shapeOf word) value are)
+  piece-bytes : (m : List ℕ) → AreBytes m → (c : Piece) → Sendable c → AreBytes (memoryOf windows c m)
+  piece-bytes m are (load address bytes pads) sendable = load-over windows m address bytes (sendable .2) .bytes are
+  piece-bytes m are (fill address size kind pattern) sendable = fill-over windows m address size kind pattern .bytes are
+  piece-bytes m are (setting word address value delay) sendable = setting-over windows m word address value .bytes are
 
   -- so do several
   pub several-length : (cs : List Piece) (m : List ℕ) → length m ≡ sumOf windows → AllGranted windows cs → length (memoriesOf windows cs m) ≡ length m
@@ -107,10 +105,10 @@ module _ (windows : List Window) where
       let same = piece-does m lent c (g .0) .same-length in
       several-length cs (memoryOf windows c m) (same ∙ lent) (g .1) ∙ same
 
-  pub several-bytes : (cs : List Piece) (m : List ℕ) → AreBytes m → AllSendable cs → AllGranted windows cs → AreBytes (memoriesOf windows cs m)
-  unfolding memoriesOf AllGranted AllSendable
-  several-bytes [] m are s g = are
-  several-bytes (c ∷ cs) m are s g = several-bytes cs (memoryOf windows c m) (piece-bytes m are c (s .0) (g .0)) (s .1) (g .1)
+  pub several-bytes : (cs : List Piece) (m : List ℕ) → AreBytes m → AllSendable cs → AreBytes (memoriesOf windows cs m)
+  unfolding memoriesOf AllSendable
+  several-bytes [] m are s = are
+  several-bytes (c ∷ cs) m are s = several-bytes cs (memoryOf windows c m) (piece-bytes m are c (s .0)) (s .1)
 
   several-bits : (cs : List Piece) (m : List ℕ) → length m ≡ sumOf windows → AllGranted windows cs → (p : ℕ) → p < 8 * length m
       → bitAt (memoriesOf windows cs m) p ≡ pick (someWrites windows cs p) (lastGiven windows cs p) (bitAt m p)
@@ -130,7 +128,7 @@ module _ (windows : List Window) where
       let kept = several-length attempt m lent ga in
       let long = several-length following (memoriesOf windows attempt m) (kept ∙ lent) gf in
       same-bits _ _ (long ∙ kept ∙ sym (several-length following m lent gf))
-      (several-bytes following _ (several-bytes attempt m are sa ga) sf gf) (several-bytes following m are sf gf)
+      (several-bytes following _ (several-bytes attempt m are sa) sf) (several-bytes following m are sf)
       (λ p h.
       several-bits following _ (kept ∙ lent) gf p (omega (arith, long, h))
       ∙ ap (λ (n : ℕ). pick (someWrites windows following p) (lastGiven windows following p) n) (several-bits attempt m lent ga p (omega (arith, long, kept, h)))

@@ -22,6 +22,7 @@ use Rattle.script.specs.declared.Command.the-variants as command
 use Rattle.script.specs.declared.Event.{Event}
 use Rattle.script.specs.declared.Event.the-variants.{Nothing, Wait}
 use Rattle.commands.specs.Commands.{loadJudged, loaded, fillDone, fillMemory, settingDone, settingMemory, memoryIf}
+use Rattle.commands.proofs.Loading.{loaded-append}
 use Rattle.commands.specs.declared.Judged.the-variants.{Granted}
 use Rattle.sent.specs.Line.{isStart}
 use Rattle.sent.specs.Machine.{noneKept, awaited, after, acknowledging, wordStep}
@@ -34,7 +35,6 @@ use Rattle.retries.specs.Feeding.{State, Heard, fed}
 use Rattle.retries.specs.Pieces.{Piece, load, fill, setting, four, bytesOf, AreBytes, Sendable, judgedOf, loadOpcode, fillOpcode, settingOpcode, requestOpcode, startOverOpcode}
 use Rattle.retries.proofs.Feeding.{Goes, nothing-goes, _then_, reaching}
 use Rattle.retries.proofs.Line.{running, ready, wordOf, heardWord, accepted, Plain, word-goes, word-again, bytes-again}
-use Rattle.retries.proofs.Memory.{loaded-append}
 
 -- the register after the data of a load, word by word
 unfoldable pub dataFed : Bool → ℕ → ℕ → ℕ → List ℕ → ℕ

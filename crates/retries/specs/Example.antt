@@ -6,9 +6,12 @@ use mathlib.Core.Path.{_≡_}
 use lib.ListN.{replicate}
 use Rattle.windows.specs.Map.{zeroWindow}
 use Rattle.windows.specs.declared.Window.{Window}
-use Rattle.retries.specs.Feeding.{State, fed}
+use Rattle.script.specs.declared.Event.the-variants.{Nothing}
+use Rattle.script.specs.declared.Refusal.the-variants.{Memory}
+use Rattle.sent.specs.Replies.{silence}
+use Rattle.retries.specs.Feeding.{State, heard, fed}
 use Rattle.retries.specs.Pieces.{Piece, load, setting, four, enableOpcode, bytesOf, allBytes, Covers}
-use Rattle.retries.specs.Retries.{sinceOpening, Awaits, Begins, Attempt, attemptBytes, NoTrace, Accepted, Retried}
+use Rattle.retries.specs.Retries.{Awaits, Begins, sinceOpening, Reached, AtStart, JustAfter, Attempt, attemptBytes, NoTrace, Accepted, Retried}
 
 -- a window of eight bytes, and what they hold
 abbrev pub windows : List Window
@@ -32,8 +35,9 @@ abandoned = record { pieces = sent 0x00060403 2 0xF (1 ∷ 2 ∷ 3 ∷ []); aske
 abbrev pub repeated : List Piece
 repeated = sent 0x00060403 1 2 (0x11 ∷ 0x22 ∷ 0x33 ∷ [])
 
--- the premises are met; the attempt changes memory; after the repeat nothing is left of it
+-- the premises are met, from the opening on; the attempt changes memory; after the repeat nothing is left of it
 pub record Worked : Type 0 where
+  pub just-after : JustAfter start
   pub retried : Retried start (attemptBytes abandoned) (abandoned .pieces) repeated
   pub no-trace : NoTrace start (attemptBytes abandoned) (allBytes repeated)
   pub after-attempt : fed start (attemptBytes abandoned) .memory ≡ 0x2F ∷ 0x0F ∷ 0 ∷ 0 ∷ 1 ∷ 2 ∷ 3 ∷ 0xAA ∷ []
@@ -67,6 +71,19 @@ unfoldable pub started : State
 started = sinceOpening 1 windows before (0x58 ∷ [])
 
 pub record NothingFollows : Type 0 where
+  pub just-after : JustAfter started
   pub begins : Begins started
   pub accepted : Accepted started (attemptBytes nothing) [] []
   pub trace : NoTrace started (attemptBytes nothing) [] → ⊥
+
+-- a byte of memory is missing, and all else is met: the start word is refused with 2, not answered
+abbrev pub shorter : List ℕ
+shorter = 0x7F ∷ 0 ∷ 0 ∷ 0 ∷ 0xAA ∷ 0xAA ∷ 0xAA ∷ []
+
+unfoldable pub short : State
+short = sinceOpening 1 windows shorter []
+
+pub record MemoryTooShort : Type 0 where
+  pub reached : Reached short
+  pub at-start : AtStart short
+  pub refused : heard short 0x58 ≡ record { refusal = Memory; reply = silence; event = Nothing }

@@ -6,7 +6,7 @@ use mathlib.Core.Path.{_≡_}
 use lib.ListN.{length, getD}
 use Rattle.words.specs.Bytes.{byte}
 use Rattle.windows.specs.declared.Window.{Window}
-use Rattle.commands.specs.Commands.{loadJudged, fillJudged, shapeOf, shapeJudged}
+use Rattle.commands.specs.Commands.{loadJudged, unitOf, fillJudged, shapeOf, shapeJudged}
 use Rattle.commands.specs.declared.Judged.{Judged}
 use Rattle.commands.specs.declared.Judged.the-variants.{Granted, Refused}
 use Rattle.effects.specs.Effects.{Effect, writes, noEffect, loadEffect, fillEffect, settingEffect}
@@ -75,7 +75,7 @@ judgedOf windows (setting word address value delay) = shapeJudged windows (shape
 -- the bits that a command writes from a place on: of a load or fill those of its range, of a setting those of its unit or field
 abbrev pub effectAt : Piece → ℕ → Effect
 effectAt (load address bytes pads) place = loadEffect place bytes
-effectAt (fill address size kind pattern) place = fillEffect place size kind pattern
+effectAt (fill address size kind pattern) place = fillEffect place size (unitOf kind) pattern
 effectAt (setting word address value delay) place = settingEffect place (shapeOf word) value
 
 -- those that it writes where it is granted; none where it is refused

@@ -27,25 +27,67 @@ pub record Begins (x : State) : Type 0 where
   pub awaits : Awaits x
   pub rewound : register x ≡ 0
 
--- a running session on its own memory where the start word would be answered: at a word's beginning, before an opcode is acknowledged
-pub record AtStart (x : State) : Type 0 where
-  pub running : x .session .core .ended ≡ false
-  pub lent : length (x .memory) ≡ sumOf (x .session .core .windows)
-  pub bytes : AreBytes (x .memory)
-  pub before : x .session .core .begun ≡ false
-  pub fresh : x .session .line .have ≡ 0
-
 -- a session after its opening and some bytes
 abbrev pub sinceOpening : ℕ → List Window → List ℕ → List ℕ → State
 sinceOpening count windows memory bytes = fed (record { session = openedBy count windows .session; memory = memory }) bytes
 
--- an attempt may begin just after the answered start word, and just after an Enable, a Request or a Start-Over was taken as an opcode
+-- a session that an opening leads to, lent memory of bytes, whatever is sent
+pub record Reached (x : State) : Type 0 where
+  pub count : ℕ
+  pub windows : List Window
+  pub memory : List ℕ
+  pub sent : List ℕ
+  pub bytes : AreBytes memory
+  pub leads : sinceOpening count windows memory sent ≡ x
+
+-- the windows that its opening kept
+abbrev pub opened : {x : State} → Reached x → List Window
+opened r = openedBy (r .count) (r .windows) .session .core .windows
+
+-- the memory lent to it has the length of its map
+abbrev pub Whole : {x : State} → Reached x → Type 0
+Whole r = length (r .memory) ≡ sumOf (opened r)
+
+-- what is seen of a session that awaits an opcode: it runs, has been started and has nothing gathered
+pub record Idle (x : State) : Type 0 where
+  pub running : x .session .core .ended ≡ false
+  pub started : x .session .line .started ≡ true
+  pub fresh : x .session .line .have ≡ 0
+  pub opcode : x .session .core .stage .phase ≡ Opcode
+
+-- and of one at a word's beginning before an opcode is acknowledged, started or not
+pub record AtStart (x : State) : Type 0 where
+  pub running : x .session .core .ended ≡ false
+  pub before : x .session .core .begun ≡ false
+  pub fresh : x .session .line .have ≡ 0
+
+-- what bytes keep, from an opening that kept these windows and was lent memory of this size
+pub record Sound (windows : List Window) (size : ℕ) (x : State) : Type 0 where
+  pub same-windows : x .session .core .windows ≡ windows
+  pub same-length : length (x .memory) ≡ size
+  pub bytes : AreBytes (x .memory)
+  pub gathered : x .session .line .have ≡ 0 → x .session .line .word ≡ 0
+  pub unstarted : x .session .line .started ≡ false → (x .session .line .have ≡ 0) × (x .session .core .begun ≡ false)
+  pub started : x .session .line .started ≡ true → size ≡ sumOf windows
+  pub unbegun : x .session .core .begun ≡ false → (register x ≡ 0) × (x .session .core .stage .phase ≡ Opcode)
+
+-- just after the answered start word, or after an Enable, a Request or a Start-Over that was taken as an opcode
+pub data JustAfter : State → Type 0 where
+  after-start : {x : State} (b : ℕ) → Reached x → heard x b .reply ≡ startAnswer → JustAfter (next x b)
+  after-enable : {x : State} → Reached x → Idle x → JustAfter (fed x (four enableOpcode))
+  after-request : {x : State} → Reached x → Idle x → JustAfter (fed x (four requestOpcode))
+  after-start-over : {x : State} → Reached x → Idle x → JustAfter (fed x (four startOverOpcode))
+
+-- where attempts begin, of every session that bytes lead to
 pub record Beginnings : Type 0 where
-  pub after-start : (count : ℕ) (windows : List Window) (memory bytes : List ℕ) → AtStart (sinceOpening count windows memory bytes)
-      → (heard (sinceOpening count windows memory bytes) 0x58 .reply ≡ startAnswer) × Begins (next (sinceOpening count windows memory bytes) 0x58)
-  pub after-enable : (x : State) → Awaits x → Begins (fed x (four enableOpcode))
-  pub after-request : (x : State) → Awaits x → Begins (fed x (four requestOpcode))
-  pub after-start-over : (x : State) → Awaits x → Begins (fed x (four startOverOpcode))
+  -- just after each of the four
+  pub begins : (x : State) → JustAfter x → Begins x
+  -- a session that is seen to await an opcode does so on its own memory, with nothing left of a word; for bytes keep it sound
+  pub awaits : (x : State) → Reached x → Idle x → Awaits x
+  pub sound : (x : State) (r : Reached x) → Sound (opened r) (length (r .memory)) x
+  -- the start word is answered before an opcode is acknowledged, where a word would begin; no other byte is answered so, and nowhere else
+  pub answered : (x : State) (r : Reached x) → Whole r → AtStart x → heard x 0x58 .reply ≡ startAnswer
+  pub only-there : (x : State) (b : ℕ) (r : Reached x) → heard x b .reply ≡ startAnswer → (b ≡ 0x58) × Whole r × AtStart x
 
 -- an abandoned attempt: loads, fills and settings, none or more; perhaps a Request; a Start-Over
 pub record Attempt : Type 0 where
@@ -104,3 +146,10 @@ abbrev pub ManyRetriesLeaveNoTrace : Type 0
 ManyRetriesLeaveNoTrace =
     (x : State) (attempts : List Attempt) (c : Piece) (cs : List Piece)
     → Retried x (attemptsBytes attempts) (attemptsPieces attempts) (c ∷ cs) → NoTrace x (attemptsBytes attempts) (allBytes (c ∷ cs))
+
+-- demand 3 from an opening on: of the session nothing is assumed but that the attempt comes just after one of the four
+abbrev pub RetriesSinceOpening : Type 0
+RetriesSinceOpening =
+    (x : State) (a : Attempt) (c : Piece) (cs : List Piece)
+    → JustAfter x → Accepted x (attemptBytes a) (a .pieces) (c ∷ cs) → Covers (x .session .core .windows) (a .pieces) (c ∷ cs)
+    → NoTrace x (attemptBytes a) (allBytes (c ∷ cs))

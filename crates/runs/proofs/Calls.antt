@@ -1,5 +1,5 @@
 -- One call of a run, and what is left to do after it: each law is one step of the definition.
-use Prim.Native.Nat.{ℕ, zero, suc, _-_, _<_}
+use Prim.Native.Nat.{ℕ, zero, suc, _-_}
 use mathlib.Core.Bool.{Bool, true, false, not, _&&_}
 use mathlib.Core.List.{List}
 use mathlib.Core.Logic.{_≢_}
@@ -12,7 +12,7 @@ use Rattle.flash.specs.Sessions.{Outcome, _leaving_}
 use Rattle.flash.specs.Step.{stepOf}
 use Rattle.flash.specs.declared.Called.{Called}
 use Rattle.flash.specs.declared.Session.{Session}
-use Rattle.runs.specs.Run.{goesOn, carriedOn, enough, runOf}
+use Rattle.runs.specs.Run.{goesOn, carriedOn}
 
 -- a call that is accepted goes on unless it ended the session
 pub accepted-goes : (a : Called) → numberOf (a .refusal) ≡ 0 → goesOn a ≡ not (a .session .ended)
@@ -42,21 +42,18 @@ module _ (image : List ℕ) where
   unfolding carriedOn
   spent n o e = ap (λ (k : ℕ). carriedOn k o image) e
 
-  -- after a call one fewer is left
-  pub passes : (n : ℕ) (last : Called) (m : List ℕ) {after : List ℕ} {a : Called} → 0 < n → goesOn last ≡ true
-      → a ≡ stepOf (last .session) m image .answer → after ≡ stepOf (last .session) m image .memory
-      → carriedOn (n - 1) (a leaving after) image ≡ carriedOn n (last leaving m) image
-  passes n last m h more e f =
-      let again : suc (n - 1) ≡ n = omega arith in
-      ap (λ (o : Outcome). carriedOn (n - 1) o image) (ap₂ _leaving_ e f)
-      ∙ sym (goes (n - 1) (last leaving m) more)
-      ∙ ap (λ (k : ℕ). carriedOn k (last leaving m) image) again
+  -- a call of a session s, with its answer and the memory that it leaves
+  module _ (s : Session) (m : List ℕ) {after : List ℕ} {a : Called} (e : a ≡ stepOf s m image .answer) (f : after ≡ stepOf s m image .memory) where
+    -- after one that goes on one fewer is left
+    pub passes : (n : ℕ) → n ≢ 0 → goesOn a ≡ true → carriedOn (n - 1) (stepOf (a .session) after image) image ≡ carriedOn n (stepOf s m image) image
+    passes n h more =
+        let again : suc (n - 1) ≡ n = omega (arith, h) in
+        sym (goes (n - 1) (a leaving after) more)
+        ∙ ap₂ (λ (k : ℕ) (o : Outcome). carriedOn k o image) again (ap₂ _leaving_ e f)
 
-  -- what the calls after the first lead to is what the run gives
-  pub delivers : (s : Session) (m : List ℕ) {after : List ℕ} {a : Called} {o : Outcome}
-      → a ≡ stepOf s m image .answer → after ≡ stepOf s m image .memory → o ≡ carriedOn (enough s) (a leaving after) image
-      → (o .answer ≡ runOf s m image .answer) × (o .memory ≡ runOf s m image .memory)
-  unfolding runOf
-  delivers s m e f same =
-      let whole = same ∙ ap (λ (o : Outcome). carriedOn (enough s) o image) (ap₂ _leaving_ e f) in
-      (ap (λ (o : Outcome). o .answer) whole, ap (λ (o : Outcome). o .memory) whole)
+    -- the last one gives what the run gives
+    pub delivers : (n : ℕ) {o : Outcome} → carriedOn n (a leaving after) image ≡ (a leaving after) → carriedOn n (stepOf s m image) image ≡ o
+        → (a ≡ o .answer) × (after ≡ o .memory)
+    delivers n last same =
+        let whole = sym last ∙ ap (λ (o : Outcome). carriedOn n o image) (ap₂ _leaving_ e f) ∙ same in
+        (ap (λ (o : Outcome). o .answer) whole, ap (λ (o : Outcome). o .memory) whole)

@@ -1,20 +1,25 @@
--- Every run ends by itself: each call that goes on takes at least one from the words that are left to pass, and the bound counts no fewer
--- than those.
+-- Every run ends by itself: by the law of a call, each that goes on takes at least one from the words that are left to pass, and the bound counts
+-- no fewer than those.
 use Prim.Native.Nat.{ℕ, zero, suc, _+_, _-_, _*_, _/_, _≤_, _<_}
-use mathlib.Core.Bool.{true, false, not, true≢false}
+use mathlib.Core.Bool.{true, false, not}
 use mathlib.Core.List.{List}
 use mathlib.Core.Path.{_≡_, sym, ap, ap₂, subst, _∙_}
 use native.Mathlib.Omega.{arith}
 use native.Mathlib.Nat.{mul-le-mul-right, add-mul}
-use Rattle.words.proofs.Choice.{chosen, by-test}
-use Rattle.script.specs.declared.Refusal.the-variants as refusal
+use lib.Dec.{eqb}
+use borrow.Author.Tests.{eqb-true, eqb-false}
+use Rattle.words.proofs.Choice.{by-test}
+use Rattle.script.specs.Answers.{numberOf, kindOf}
+use Rattle.script.specs.declared.Refusal.the-variants.{None, Ended as Over}
+use Rattle.flash.specs.Calls.{Forward, Back, Way, forward, back, kept, Call}
 use Rattle.flash.specs.Sessions.{Outcome, _leaving_, unchanged}
 use Rattle.flash.specs.Step.{stepOf}
 use Rattle.flash.specs.declared.Called.{Called}
 use Rattle.flash.specs.declared.Session.{Session}
-use Rattle.runs.specs.Run.{goesOn, carriedOn, enough, runOf, Ended, entering, refused, Onward, forward, back, Moves}
+use Rattle.flash.proofs.Calls.{every-call}
+use Rattle.flash.proofs.Cases.{call-ended}
+use Rattle.runs.specs.Run.{goesOn, carriedOn, enough, runOf, Ended, entering, refused}
 use Rattle.runs.proofs.Calls.{accepted-goes, refused-stops, stays, goes}
-use Rattle.runs.proofs.Turns.{Turn, moving, ending, step-turn}
 
 -- words still to pass: those of the image for each retry that is left, and those from the offset on
 abbrev wordsLeft : Session → ℕ
@@ -27,20 +32,24 @@ left-bound s =
     let spare : (s .limit - s .retries) * words ≤ s .limit * words = mul-le-mul-right words (omega arith) in
     omega (arith, add-mul (s .limit) 1 words)
 
--- a move leaves fewer
-move-less : {s t : Session} → Moves s t → wordsLeft t < wordsLeft s
-move-less {s} {t} moves = go (moves .onward)
-  where
-    same-words : t .length / 4 ≡ s .length / 4
-    same-words = ap (λ (n : ℕ). n / 4) (moves .same-length)
+-- a call that goes forward or back leaves fewer
+module _ {s : Session} {image : List ℕ} {a : Called} (call : Call s image a) where
+  same-words : a .session .length / 4 ≡ s .length / 4
+  same-words = ap (λ (n : ℕ). n / 4) (call .same-length)
 
-    go : Onward s t → wordsLeft t < wordsLeft s
-    go (forward low same) =
-        let spare : t .limit - t .retries ≡ s .limit - s .retries = omega arith in
-        omega (arith, ap₂ (λ (n k : ℕ). n * k) spare same-words)
-    go (back low before left one) =
-        let spare : t .limit - t .retries + 1 ≡ s .limit - s .retries = omega arith in
-        omega (arith, ap₂ (λ (n k : ℕ). n * k) spare same-words, add-mul (t .limit - t .retries) 1 (t .length / 4))
+  forward-less : Forward s image a → wordsLeft (a .session) < wordsLeft s
+  forward-less f =
+      let spare : a .session .limit - a .session .retries ≡ s .limit - s .retries = omega arith in
+      omega (arith, ap₂ (λ (n k : ℕ). n * k) spare same-words)
+
+  back-less : Back s image a → wordsLeft (a .session) < wordsLeft s
+  back-less b =
+      let spare : a .session .limit - a .session .retries + 1 ≡ s .limit - s .retries = omega arith in
+      omega (
+        arith,
+        ap₂ (λ (n k : ℕ). n * k) spare same-words,
+        add-mul (a .session .limit - a .session .retries) 1 (a .session .length / 4),
+      )
 
 -- an end does not go on
 end-stops : {a : Called} → Ended a → goesOn a ≡ false
@@ -53,26 +62,24 @@ data Within (n : ℕ) (a : Called) : Type 0 where
   final : Ended a → Within n a
 
 -- a call of a session that is not ended
-turned : {s : Session} {a : Called} {n : ℕ} → s .ended ≡ false → wordsLeft s ≤ n → Turn s a → Within n a
-turned {a = a} standing bound (moving e moves) =
-    let still = moves .same-end ∙ standing in
-    fewer (accepted-goes a e ∙ ap not still) still (omega (arith, move-less moves))
-turned standing bound (ending end) = final end
+turned : {s : Session} {image : List ℕ} {a : Called} {n : ℕ} → s .ended ≡ false → wordsLeft s ≤ n → Call s image a → Within n a
+turned {s} {image} {a} {n} standing bound call = go (call .way)
+  where
+    onward : a .refusal ≡ None → a .session .ended ≡ false → wordsLeft (a .session) < wordsLeft s → Within n a
+    onward accepted still less = fewer (accepted-goes a (ap numberOf accepted) ∙ ap not still) still (omega arith)
 
--- a call of an ended session is refused with 14
-step-ended : (s : Session) (m image : List ℕ) → s .ended ≡ true → stepOf s m image ≡ unchanged refusal.Ended s leaving m
-unfolding stepOf
-step-ended s m image e = chosen _ _ _ e
+    go : Way s image a → Within n a
+    go (forward f) =
+        by-test (eqb (kindOf (a .event)) 3)
+        (λ enters. final (entering (ap numberOf (f .accepted)) (eqb-true _ _ enters) (f .ended ∙ enters)))
+        (λ none. onward (f .accepted) (f .ended ∙ none) (forward-less call f))
+    go (back b) = onward (b .accepted) (b .running) (back-less call b)
+    go (kept k) = final (refused (k .refused, eqb-false _ _ (call .over ∙ standing)))
 
--- and does not go on
+-- a call of an ended session does not go on
 ended-stops : (s : Session) (m image : List ℕ) → s .ended ≡ true → goesOn (stepOf s m image .answer) ≡ false
 ended-stops s m image e =
-    ap (λ (o : Outcome). goesOn (o .answer)) (step-ended s m image e) ∙ refused-stops (unchanged refusal.Ended s) (λ z. omega arith)
-
--- a turn that goes on has moved
-turn-moves : {s : Session} {a : Called} → Turn s a → goesOn a ≡ true → Moves s (a .session)
-turn-moves (moving e moves) more = moves
-turn-moves (ending end) more = absurd (true≢false (sym more ∙ end-stops end))
+    ap (λ (o : Outcome). goesOn (o .answer)) (call-ended s m image e) ∙ refused-stops (unchanged Over s) (λ z. omega arith)
 
 module _ (image : List ℕ) where
   -- an end, or what more calls lead to
@@ -88,7 +95,7 @@ module _ (image : List ℕ) where
   reaches (suc n) o within =
       arrives (suc n) o within
       (λ e standing h. subst (λ (x : Outcome). Ended (x .answer)) (sym (goes image n o e))
-      (reaches n _ (turned standing (omega arith) (step-turn (o .answer .session) (o .memory) image standing))))
+      (reaches n _ (turned standing (omega arith) (every-call (o .answer .session) (o .memory) image))))
 
   -- more calls than lead to an end lead to the same
   longer : (n k : ℕ) (o : Outcome) → n ≤ k → goesOn (carriedOn n o image .answer) ≡ false → carriedOn k o image ≡ carriedOn n o image
@@ -106,14 +113,14 @@ module _ (image : List ℕ) where
 
 module _ (s : Session) (m image : List ℕ) where
   -- a run of an ended session is one call
-  pub run-of-ended : s .ended ≡ true → runOf s m image ≡ unchanged refusal.Ended s leaving m
+  pub run-of-ended : s .ended ≡ true → runOf s m image ≡ unchanged Over s leaving m
   unfolding runOf
-  run-of-ended e = stays image (enough s) (stepOf s m image) (ended-stops s m image e) ∙ step-ended s m image e
+  run-of-ended e = stays image (enough s) (stepOf s m image) (ended-stops s m image e) ∙ call-ended s m image e
 
   -- a run of any other ends by entering, or by a refusal that is not 14
   pub run-reaches-end : s .ended ≡ false → Ended (runOf s m image .answer)
   unfolding runOf
-  run-reaches-end standing = reaches image (enough s) _ (turned standing (left-bound s) (step-turn s m image standing))
+  run-reaches-end standing = reaches image (enough s) _ (turned standing (left-bound s) (every-call s m image))
 
   -- no run stops while its session goes on
   pub run-ends : goesOn (runOf s m image .answer) ≡ false
@@ -129,9 +136,3 @@ module _ (s : Session) (m image : List ℕ) where
   pub more-is-same : (n : ℕ) → enough s ≤ n → carriedOn n (stepOf s m image) image ≡ runOf s m image
   unfolding runOf
   more-is-same n h = longer image (enough s) n (stepOf s m image) h run-ends
-
-  -- a call that goes on keeps windows, length and limit, and moves
-  pub step-moves : goesOn (stepOf s m image .answer) ≡ true → Moves s (stepOf s m image .answer .session)
-  step-moves more =
-      by-test (s .ended) (λ e. absurd (true≢false (sym more ∙ ended-stops s m image e)))
-      (λ standing. turn-moves (step-turn s m image standing) more)

@@ -1,4 +1,2 @@
 pub mod Calls
 pub mod Ends
-pub mod Turns
-pub mod Verdicts

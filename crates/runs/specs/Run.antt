@@ -1,5 +1,5 @@
 -- A run of one unchanged image: calls until one is refused or the session ends.
-use Prim.Native.Nat.{ℕ, zero, suc, _+_, _*_, _/_, _≤_, _<_}
+use Prim.Native.Nat.{ℕ, zero, suc, _+_, _*_, _/_}
 use mathlib.Core.Bool.{Bool, true, not, _&&_}
 use mathlib.Core.List.{List}
 use mathlib.Core.Logic.{_≢_}
@@ -39,17 +39,3 @@ Refuses q = (numberOf q ≢ 0) × (numberOf q ≢ 14)
 pub data Ended (a : Called) : Type 0 where
   entering : numberOf (a .refusal) ≡ 0 → kindOf (a .event) ≡ 3 → a .session .ended ≡ true → Ended a
   refused : Refuses (a .refusal) → Ended a
-
--- where a call that goes on leads: past the words of its command, or back with one of the retries that are left
-pub data Onward (s t : Session) : Type 0 where
-  forward : s .offset + 4 ≤ t .offset → t .retries ≡ s .retries → Onward s t
-  back : 4 ≤ t .offset → t .offset < s .offset → s .retries < s .limit → t .retries ≡ s .retries + 1 → Onward s t
-
--- what such a call keeps of a session, and where it leads: to an offset of the image or to its end
-pub record Moves (s t : Session) : Type 0 where
-  pub same-windows : t .windows ≡ s .windows
-  pub same-length : t .length ≡ s .length
-  pub same-limit : t .limit ≡ s .limit
-  pub same-end : t .ended ≡ s .ended
-  pub within : t .offset ≤ s .length
-  pub onward : Onward s t

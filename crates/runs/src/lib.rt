@@ -21,14 +21,16 @@ pub fn run(session: Session, memory: &mut [u8], image: &[u8]) -> Called
     ensures { λ _. ⌜ now (memory .exit) ≡ runOf session (now (memory .entry)) (now (image .entry)) .memory ⌝ }
 {
     let mut left = ((session.limit as u64) + 1) * ((session.length as u64) / 4);
-    let mut last = session.step(memory, image);
-    while 0 < left {
-        if !goes_on(last) {
-            return last;
+    let mut live = session;
+    loop {
+        let called = live.step(memory, image);
+        if left == 0 {
+            return called;
         }
-        let next = last.session;
-        last = next.step(memory, image);
+        if !goes_on(called) {
+            return called;
+        }
+        live = called.session;
         left -= 1;
     }
-    last
 }

@@ -1,14 +1,15 @@
--- A search of the opcode table: what the rows from a place on answer, by whether the row at that place serves. What is found is one of the rows, so that
+-- A search of the opcode table: what the rows from a place on answer, by the row at that place and the rows after it. What is found is one of the rows, so that
 -- what a test says of each row holds of it.
 use Prim.Native.Nat.{ℕ, _+_, _<_}
 use mathlib.Core.Bool.{Bool, true, false, not, _&&_, _||_, false≢true}
 use mathlib.Core.List.{List, [], _∷_}
-use mathlib.Core.Path.{_≡_, sym, _∙_}
+use mathlib.Core.Path.{_≡_, refl, sym, _∙_}
 use native.Mathlib.Numerals.{add-one}
 use native.Mathlib.Omega.{arith}
 use lib.Dec.{eqb}
 use lib.ListN.{length, getD, drop}
 use lib.Seq.{drop-cons}
+use Rattle.words.specs.Choice.{pick}
 use Rattle.words.proofs.Choice.{chosen, passed, by-test, both}
 use Rattle.script.specs.Opcodes.{allowed, rowServes, foundIn}
 use Rattle.script.specs.declared.Command.{Command}
@@ -16,16 +17,11 @@ use Rattle.script.specs.declared.Mode.{Mode}
 use Rattle.script.specs.declared.Row.{Row}
 use Rattle.script.specs.declared.Found.the-variants.{Known}
 
-module _ (rows : List Row) (opcode : ℕ) (mode : Mode) (i : ℕ) (other : Row) (h : i < length rows) where
-  pub found-here : rowServes (getD rows i other) opcode mode ≡ true
-      → foundIn (drop i rows) opcode mode ≡ Known (getD rows i other .command) (getD rows i other .words)
-  unfolding foundIn
-  found-here e = rw (drop-cons rows i other h) (chosen _ _ _ e)
-
-  pub found-later : rowServes (getD rows i other) opcode mode ≡ false
-      → foundIn (drop i rows) opcode mode ≡ foundIn (drop (i + 1) rows) opcode mode
-  unfolding foundIn
-  found-later e = rw (drop-cons rows i other h, add-one) (passed _ _ _ e)
+pub found-from : (rows : List Row) (opcode : ℕ) (mode : Mode) (i : ℕ) (other : Row) → i < length rows
+    → foundIn (drop i rows) opcode mode
+    ≡ pick (rowServes (getD rows i other) opcode mode) (Known (getD rows i other .command) (getD rows i other .words)) (foundIn (drop (i + 1) rows) opcode mode)
+unfolding foundIn
+found-from rows opcode mode i other h = rw (drop-cons rows i other h, add-one) refl
 
 -- a row that serves is one that the mode allows
 serves-allowed : (row : Row) (opcode : ℕ) (mode : Mode) → rowServes row opcode mode ≡ true → allowed row mode ≡ true

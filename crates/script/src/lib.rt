@@ -1,5 +1,6 @@
 // The words of an Application Image Script: opcode rows, refusal numbers and events.
 ghost use mathlib.Core.Path.{_≡_};
+ghost use Rattle.words.specs.Choice.{pick};
 ghost use Rattle.script.specs.Answers.{numberOf, kindOf, valueOf};
 ghost use Rattle.script.specs.Opcodes.{rowServes, lookedUp};
 
@@ -218,18 +219,28 @@ fn serves(row: Row, opcode: u32, mode: Mode) -> bool
     }
 }
 
-// The command of an opcode in a mode, with its argument words.
+// What a row says of an opcode in a mode, or else what those after it say.
+fn row_first(row: Row, opcode: u32, mode: Mode, later: Found) -> Found
+    ensures { λ r. ⌜ r ≡ pick (rowServes row opcode mode) (Found.Known (row .command) (row .words)) later ⌝ }
+{
+    if serves(row, opcode, mode) {
+        let command = row.command;
+        return Found::Known(command, row.words);
+    }
+    later
+}
+
+// The command of an opcode in a mode, with its argument words. The rows are gone through from the last to the first.
 pub fn look_up(opcode: u32, mode: Mode) -> Found
     ensures { λ r. ⌜ r ≡ lookedUp opcode mode ⌝ }
 {
-    let mut i: usize = 0;
-    while i < 12 {
-        let row = ROWS[i];
-        if serves(row, opcode, mode) {
-            let command = row.command;
-            return Found::Known(command, row.words);
-        }
-        i += 1;
+    let table = ROWS;
+    let mut found = Found::Unknown;
+    let mut i: usize = 12;
+    while 0 < i {
+        i -= 1;
+        let row = table[i];
+        found = row_first(row, opcode, mode, found);
     }
-    Found::Unknown
+    found
 }

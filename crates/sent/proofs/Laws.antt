@@ -4,11 +4,11 @@ use Prim.Native.Nat.{ℕ, zero, suc, _+_, _-_, _*_, _/_, _%_, _^_, _<_, min}
 use mathlib.Core.Bool.{Bool, true, false}
 use mathlib.Core.List.{List, [], _∷_, _++_}
 use mathlib.Core.Path.{_≡_, refl, sym, ap, ap₂, _∙_}
-use native.Mathlib.Nat.{add-zero, add-suc, add-assoc, add-sub-cancel}
+use native.Mathlib.Nat.{add-sub-cancel}
 use native.Mathlib.Omega.{arith}
 use borrow.Author.Tests.{eq-eqb, ne-eqb}
-use lib.ListN.{length, getD, take, drop, set, length-append, length-take, take-append-drop, List·getD-append}
-use lib.Seq.{length-take-le, take-nil, getD-take, getD-append-add}
+use lib.ListN.{length, getD, take, drop, length-take, take-append-drop}
+use lib.Seq.{length-take-le, take-nil, getD-take}
 use Rattle.words.specs.Bits.{bit, join}
 use Rattle.words.specs.Bytes.{byte, number, put}
 use Rattle.words.specs.Choice.{pick}
@@ -17,6 +17,7 @@ use Rattle.words.proofs.WrittenBits.{bit-byte, bit-number}
 use Rattle.checksum.specs.Checksum.{fedBit, fed, fedWords}
 use Rattle.script.specs.declared.Command.the-variants as command
 use Rattle.commands.specs.Commands.{loadJudged, loaded, wordsFed, loadFed}
+use Rattle.commands.proofs.Loading.{loaded-append}
 use Rattle.commands.specs.declared.Judged.{Judged}
 use Rattle.commands.specs.declared.Judged.the-variants.{Granted}
 use Rattle.sent.specs.Line.{pushed}
@@ -88,30 +89,6 @@ data-fed r n w =
     ∙ ap (λ (b : ℕ). bit b (i % 8)) (data-byte w n (i / 8) (omega arith))
     ∙ bit-byte w (i / 8) (i % 8) (omega arith)
     ∙ ap (bit w) (sym parts)))
-
--- writes of the same bytes are the same
-put-same : (m : List ℕ) (at n : ℕ) (f g : ℕ → ℕ) → ((i : ℕ) → i < n → f i ≡ g i) → put m at n f ≡ put m at n g
-unfolding put
-put-same m at zero f g same = refl
-put-same m at (suc n) f g same =
-    ap₂ (λ (l : List ℕ) (b : ℕ). set l (at + n) b) (put-same m at n f g (λ i h. same i (omega arith))) (same n (omega arith))
-
--- a write and then one just above it are one write
-put-append : (m : List ℕ) (at n j : ℕ) (f : ℕ → ℕ) → put (put m at n f) (at + n) j (λ i. f (n + i)) ≡ put m at (n + j) f
-unfolding put
-put-append m at n zero f = rw add-zero
-put-append m at n (suc j) f = rw (add-suc, add-assoc at n j, put-append m at n j f)
-
--- bytes loaded and then others just above them
-loaded-append : (m : List ℕ) (p : ℕ) (xs ys : List ℕ) → loaded (loaded m p xs) (p + length xs) ys ≡ loaded m p (xs ++ ys)
-unfolding loaded
-loaded-append m p xs ys =
-    let all : ℕ → ℕ = λ i. getD (xs ++ ys) i 0 in
-    ap (λ (l : List ℕ). put l (p + length xs) (length ys) (λ i. getD ys i 0))
-    (put-same m p (length xs) _ all (λ i h. sym (List·getD-append xs ys 0 i h)))
-    ∙ put-same _ (p + length xs) (length ys) _ (λ i. all (length xs + i)) (λ i h. sym (getD-append-add xs ys i 0))
-    ∙ put-append m p (length xs) (length ys) all
-    ∙ ap (λ (n : ℕ). put m p n all) (sym (length-append xs ys))
 
 -- a data word where some are left
 data-step : (k : Core) (m : List ℕ) (p n w : ℕ) → 0 < n → k .stage .phase ≡ awaited (p + n) n

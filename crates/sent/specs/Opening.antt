@@ -7,13 +7,15 @@ use Rattle.words.specs.Choice.{pick}
 use Rattle.windows.specs.Map.{goodMap, keptOf, zeroWindow}
 use Rattle.windows.specs.declared.Window.{Window}
 use Rattle.script.specs.declared.Refusal.the-variants.{None, Map}
+use Rattle.sent.specs.Replies.{silence}
 use Rattle.sent.specs.declared.Opened.{Opened}
 use Rattle.sent.specs.declared.Phase.the-variants as phase
+use Rattle.sent.specs.declared.Reply.{Reply}
 use Rattle.sent.specs.declared.Session.{Session}
 
 -- the greeting, BOOTME
-abbrev pub greeting : List ℕ
-greeting = 0x42 ∷ 0x4F ∷ 0x4F ∷ 0x54 ∷ 0x4D ∷ 0x45 ∷ []
+abbrev pub greeting : Reply
+greeting = record { bytes = 0x42 ∷ 0x4F ∷ 0x4F ∷ 0x54 ∷ 0x4D ∷ 0x45 ∷ 0 ∷ 0 ∷ []; count = 6 }
 
 -- a session at the very start, or one that never opened
 abbrev pub atStart : List Window → Bool → Session
@@ -30,8 +32,8 @@ atStart windows ended =
       line = record { started = false; have = 0; word = 0 };
     }
 
--- 1: a refused opening gives an ended session, all else of it zero or off
+-- 1: a refused opening says nothing and gives an ended session, all else of it zero or off
 unfoldable pub openedBy : ℕ → List Window → Opened
 openedBy count windows =
-    pick (not (goodMap count windows)) (record { refusal = Map; session = atStart (replicate 8 zeroWindow) true })
-    (record { refusal = None; session = atStart (keptOf count windows) false })
+    pick (not (goodMap count windows)) (record { refusal = Map; reply = silence; session = atStart (replicate 8 zeroWindow) true })
+    (record { refusal = None; reply = greeting; session = atStart (keptOf count windows) false })

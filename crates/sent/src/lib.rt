@@ -35,7 +35,7 @@ ghost use Rattle.sent.specs.Machine.{
   inPhase,
   wordStep,
 };
-ghost use Rattle.sent.specs.Opening.{atStart, openedBy};
+ghost use Rattle.sent.specs.Opening.{greeting, atStart, openedBy};
 ghost use Rattle.sent.specs.Purpose.{opcodePurpose, purposeOf, served};
 ghost use Rattle.sent.specs.Replies.{silence, startAnswer, oneWord, wordThen, acknowledged};
 use commands::Done;
@@ -126,8 +126,10 @@ pub struct Answer {
     pub session: Session,
 }
 
+// The answer to an opening, with the greeting where it is not refused.
 pub struct Opened {
     pub refusal: Refusal,
+    pub reply: Reply,
     pub session: Session,
 }
 
@@ -141,7 +143,7 @@ impl Session {
     // The start word.
     pub const START: u8 = 0x58;
 
-    // A session from a map; refused it is ended.
+    // A session from a map, and its greeting; refused it is ended and says nothing.
     pub fn open(count: usize, windows: [Window; 8]) -> Opened
         ensures { λ r. ⌜ r ≡ openedBy count windows ⌝ }
     {
@@ -150,6 +152,7 @@ impl Session {
         }
         Opened {
             refusal: Refusal::None,
+            reply: greet(),
             session: begin(windows::kept(count, windows), false),
         }
     }
@@ -211,7 +214,7 @@ fn begin(windows: [Window; 8], ended: bool) -> Session
 
 // A refused opening.
 fn shut() -> Opened
-    ensures { λ r. ⌜ r ≡ record { refusal = Refusal.Map; session = atStart (replicate 8 zeroWindow) true } ⌝ }
+    ensures { λ r. ⌜ r ≡ record { refusal = Refusal.Map; reply = silence; session = atStart (replicate 8 zeroWindow) true } ⌝ }
 {
     let none = Window {
         first: 0,
@@ -220,7 +223,28 @@ fn shut() -> Opened
     };
     Opened {
         refusal: Refusal::Map,
+        reply: silent(),
         session: begin([none; 8], true),
+    }
+}
+
+// BOOTME.
+fn greet() -> Reply
+    ensures { λ r. ⌜ r ≡ greeting ⌝ }
+{
+    let letters = Session::GREETING;
+    Reply {
+        bytes: [
+            letters[0],
+            letters[1],
+            letters[2],
+            letters[3],
+            letters[4],
+            letters[5],
+            0,
+            0,
+        ],
+        count: 6,
     }
 }
 
@@ -409,8 +433,9 @@ fn refuse(core: Core, refusal: Refusal) -> Taken
 fn say(reply: Reply, core: Core) -> Taken
     ensures { λ r. ⌜ r ≡ said reply core ⌝ }
 {
+    let refusal = Refusal::None;
     Taken {
-        refusal: Refusal::None,
+        refusal,
         reply,
         event: Event::Nothing,
         core,

@@ -25,10 +25,17 @@ rising from (w ∷ ws) = leb from (w .first) && rising (endOf w) ws
 abbrev pub soundAndRising : ℕ → List Window → Bool
 soundAndRising from ws = allSound ws && rising from ws
 
--- a good map: one to eight windows, sound and rising, whose lengths add up to at most 65,536
+-- the most windows of a map, and the most bytes of its memory
+abbrev pub mostWindows : ℕ
+mostWindows = 8
+
+abbrev pub mostMemory : ℕ
+mostMemory = 65536
+
+-- a good map: one window or more, sound and rising, whose lengths add up to no more than that
 unfoldable pub goodMap : ℕ → List Window → Bool
 goodMap count ws =
-    leb 1 count && leb count 8 && soundAndRising 0 (take count ws) && leb (sumOf (take count ws)) 65536
+    leb 1 count && leb count mostWindows && soundAndRising 0 (take count ws) && leb (sumOf (take count ws)) mostMemory
 
 -- a window past the map's count
 abbrev pub zeroWindow : Window
@@ -36,4 +43,4 @@ zeroWindow = record { first = 0; length = 0; rights = 0 }
 
 -- the windows of a map, those past its count all zero
 unfoldable pub keptOf : ℕ → List Window → List Window
-keptOf count ws = take count ws ++ replicate (8 - count) zeroWindow
+keptOf count ws = take count ws ++ replicate (mostWindows - count) zeroWindow

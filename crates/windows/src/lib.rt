@@ -57,13 +57,18 @@ pub fn grants(window: Window, right: Right, address: u32, size: u32) -> bool
     true
 }
 
+// The most windows of a map, and the most bytes of its memory.
+pub const MOST_WINDOWS: usize = 8;
+
+pub const MOST_MEMORY: usize = 65536;
+
 // Where a range lies, by the first window that grants it.
 pub fn locate(windows: [Window; 8], right: Right, address: u32, size: u32) -> Place
     ensures { λ r. ⌜ r ≡ placeOf windows right address size ⌝ }
 {
     let mut base: usize = 0;
     let mut i: usize = 0;
-    while i < 8 {
+    while i < MOST_WINDOWS {
         let window = windows[i];
         if grants(window, right, address, size) {
             return Place::At(base + ((address - window.first) as usize));
@@ -80,7 +85,7 @@ pub fn sum(windows: [Window; 8]) -> usize
 {
     let mut total: usize = 0;
     let mut i: usize = 0;
-    while i < 8 {
+    while i < MOST_WINDOWS {
         let window = windows[i];
         total = total + (window.length as usize);
         i = i + 1;
@@ -99,7 +104,7 @@ pub fn kept(count: usize, windows: [Window; 8]) -> [Window; 8]
     };
     let mut left = windows;
     let mut i = count;
-    while i < 8 {
+    while i < MOST_WINDOWS {
         left[i] = empty;
         i = i + 1;
     }
@@ -151,11 +156,11 @@ pub fn is_good(count: usize, windows: [Window; 8]) -> bool
     if count < 1 {
         return false;
     }
-    if 8 < count {
+    if MOST_WINDOWS < count {
         return false;
     }
     if sound_and_rising(count, windows) {
-        return sum(kept(count, windows)) <= 65536;
+        return sum(kept(count, windows)) <= MOST_MEMORY;
     }
     false
 }

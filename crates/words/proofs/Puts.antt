@@ -1,11 +1,11 @@
 -- What a write does to a list of bytes: its length stays, the bytes in the range are those written, all others are kept. By induction over
 -- the number of bytes.
 use Prim.Native.Nat.{ℕ, zero, suc, _+_, _-_, _≤_, _<_, min}
-use mathlib.Core.Path.{_≡_, refl, sym, ap, _∙_}
+use mathlib.Core.Path.{_≡_, refl, sym, ap, ap₂, _∙_}
 use mathlib.Core.List.{List}
 use mathlib.Core.Logic.{_≢_}
 use native.Mathlib.Decide.{ℕ-discrete, decLt}
-use native.Mathlib.Nat.{zero-min}
+use native.Mathlib.Nat.{add-zero, add-suc, add-assoc, zero-min}
 use native.Mathlib.Numerals.{add-one}
 use native.Mathlib.Omega.{arith}
 use lib.ListN.{length, getD, set, length-set}
@@ -59,3 +59,16 @@ unfolding put
 put-outside m at zero f k out = refl
 put-outside m at (suc n) f k out =
     getD-set-other (put m at n f) (at + n) k (f n) 0 (out n (omega arith)) ∙ put-outside m at n f k (λ j h. out j (omega arith))
+
+-- writes of the same bytes are the same
+pub put-same : (m : List ℕ) (at n : ℕ) {f g : ℕ → ℕ} → ((i : ℕ) → i < n → f i ≡ g i) → put m at n f ≡ put m at n g
+unfolding put
+put-same m at zero same = refl
+put-same m at (suc n) same =
+    ap₂ (λ (l : List ℕ) (b : ℕ). set l (at + n) b) (put-same m at n (λ i h. same i (omega arith))) (same n (omega arith))
+
+-- a write and then one just above it are one write
+pub put-append : (m : List ℕ) (at n j : ℕ) (f : ℕ → ℕ) → put (put m at n f) (at + n) j (λ i. f (n + i)) ≡ put m at (n + j) f
+unfolding put
+put-append m at n zero f = rw add-zero
+put-append m at n (suc j) f = rw (add-suc, add-assoc at n j, put-append m at n j f)

@@ -10,10 +10,9 @@ use lib.ListN.{length, take, drop, length-take}
 use lib.Seq.{take-all}
 use borrow.Author.Tests.{lt-ltb, le-ltb, le-leb, lt-leb}
 use Rattle.words.specs.Bits.{withField}
-use Rattle.words.specs.Bytes.{byte, number, put, bytesAt, sizeOf, fits, fieldFits, readOf, written, fieldWritten}
+use Rattle.words.specs.Bytes.{byte, number, put, bytesAt, sizeOf, fits, fieldFits, written, fieldWritten}
 use Rattle.words.specs.declared.Unit.{Unit as UnitOf}
 use Rattle.words.specs.declared.Unit.the-variants.{One, Two, Four}
-use Rattle.words.specs.declared.Reading.the-variants.{Whole, Cut, Ended}
 use Rattle.words.proofs.Choice.{chosen, passed}
 
 pub size-above : (u : UnitOf) → 0 < sizeOf u
@@ -41,20 +40,6 @@ fits-true m at n h = le-leb _ _ h
 pub fits-false : (m : List ℕ) (at n : ℕ) → length m < at + n → fits m at n ≡ false
 unfolding fits
 fits-false m at n h = lt-leb _ _ h
-
-module _ (m : List ℕ) (at : ℕ) (u : UnitOf) where
-  pub read-whole : at + sizeOf u ≤ length m → readOf m at u ≡ Whole (number (bytesAt m at (sizeOf u)))
-  unfolding readOf
-  read-whole h = chosen _ _ _ (fits-true m at (sizeOf u) h)
-
-  pub read-cut : at < length m → length m < at + sizeOf u → readOf m at u ≡ Cut
-  unfolding readOf
-  read-cut l h = passed _ _ _ (fits-false m at (sizeOf u) h) ∙ chosen _ _ _ (lt-ltb _ _ l)
-
-  pub read-ended : length m ≤ at → readOf m at u ≡ Ended
-  unfolding readOf
-  read-ended l =
-      passed _ _ _ (fits-false m at (sizeOf u) (omega (arith, size-above u))) ∙ passed _ _ _ (le-ltb _ _ l)
 
 -- a unit that does not fit is not written
 pub write-refused : (m : List ℕ) (at : ℕ) (u : UnitOf) (v : ℕ) → length m < at + sizeOf u

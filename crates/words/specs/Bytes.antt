@@ -2,14 +2,12 @@
 use Prim.Native.Nat.{ℕ, zero, suc, _+_, _*_, _/_, _%_, _^_}
 use mathlib.Core.Bool.{Bool, _&&_}
 use mathlib.Core.List.{List, [], _∷_}
-use lib.Dec.{leb, ltb}
+use lib.Dec.{leb}
 use lib.ListN.{length, getD, set, take, drop}
 use Rattle.words.specs.Bits.{bit, join, withField}
 use Rattle.words.specs.Choice.{pick}
 use Rattle.words.specs.declared.Unit.{Unit as UnitOf}
 use Rattle.words.specs.declared.Unit.the-variants.{One, Two, Four}
-use Rattle.words.specs.declared.Reading.{Reading}
-use Rattle.words.specs.declared.Reading.the-variants.{Whole, Cut, Ended}
 
 -- byte i of a number; byte 0 is the lowest
 unfoldable pub byte : ℕ → ℕ → ℕ
@@ -46,12 +44,6 @@ sizeOf Four = 4
 -- do n bytes from a place on lie inside a list?
 unfoldable pub fits : List ℕ → ℕ → ℕ → Bool
 fits m at n = leb (at + n) (length m)
-
--- a unit read at a place: its number; or the list ends inside it, or before its first byte
-unfoldable pub readOf : List ℕ → ℕ → UnitOf → Reading
-readOf m at u =
-    pick (fits m at (sizeOf u)) (Whole (number (bytesAt m at (sizeOf u))))
-    (pick (ltb at (length m)) Cut Ended)
 
 -- a list with the low bytes of v written as a unit at a place, or as it was where the unit does not fit
 unfoldable pub written : List ℕ → ℕ → UnitOf → ℕ → List ℕ

@@ -4,20 +4,13 @@ ghost use mathlib.Core.Bool.{true};
 ghost use Prim.Native.Nat.{_+_, _≤_, _<_, _^_};
 ghost use lib.ListN.{length, take, getD, set};
 ghost use Rattle.words.specs.Bits.{bit, join, withField};
-ghost use Rattle.words.specs.Bytes.{byte, number, put, sizeOf, fits, fieldFits, readOf, written, fieldWritten, wordAt};
+ghost use Rattle.words.specs.Bytes.{byte, number, put, sizeOf, fits, fieldFits, written, fieldWritten, wordAt};
 
 // A unit of 1, 2 or 4 bytes.
 pub enum Unit {
     One,
     Two,
     Four,
-}
-
-// What reading a unit at a place finds: its number; or the slice ends inside it, or before its first byte.
-pub enum Reading {
-    Whole(u32),
-    Cut,
-    Ended,
 }
 
 impl Unit {
@@ -72,20 +65,6 @@ pub fn word_at(s: &[u8], at: usize) -> u32
     ensures { λ r. ⌜ r ≡ wordAt (now (s .entry)) at ⌝ }
 {
     if at < s.len() { number_of(&s[at..]) } else { 0 }
-}
-
-// The unit at a place.
-pub fn read(s: &[u8], at: usize, unit: Unit) -> Reading
-    ensures { λ r. ⌜ r ≡ readOf (now (s .entry)) at unit ⌝ }
-{
-    let n = unit.size();
-    if s.len() <= at {
-        return Reading::Ended;
-    }
-    if s.len() - at < n {
-        return Reading::Cut;
-    }
-    Reading::Whole(number_of(&s[at..at + n]))
 }
 
 // The low bits of one number with another above them.

@@ -21,15 +21,12 @@ Inv-loop memory₀ fed room₀ count₀ first₀ live₀ i₀ memory room count 
 abbrev μ-loop : tie.MeasureT-loop
 μ-loop memory₀ fed room₀ count₀ first₀ live₀ i₀ memory room count first live i = length fed - i
 
-greet-requires : tie.Need-greet-requires Inv-loop μ-loop
-greet-requires c κs = search needs
-
 put-reply-requires : tie.Need-put-reply-requires Inv-loop μ-loop
 put-reply-requires c κs = search needs
 
 loop-holds : tie.Need-loop-holds Inv-loop μ-loop
 loop-holds c =
-    (search needs, refl, refl, search needs, omega (arith, c .before .before .put-reply .ensures .0, ap length (c .before .before .before .greet .ensures), c .before .before .before .before .before .before .before .before .pre), refl)
+    (search needs, refl, refl, search needs, omega (arith, c .before .before .put-reply .ensures .0, c .before .before .before .before .before .before .before .pre), refl)
 
 shared-slice-read-step : tie.Need-shared-slice-read-step Inv-loop μ-loop
 shared-slice-read-step c = search needs
@@ -38,20 +35,20 @@ step-requires : tie.Need-step-requires Inv-loop μ-loop
 step-requires c κs = search needs
 
 put-reply-requires-2 : tie.Need-put-reply-requires-2 Inv-loop μ-loop
-put-reply-requires-2 c κs = omega (arith, c .before .before .before .before .before .before .before .loop-test, c .before .before .before .before .before .before .before .before .loop .inv, c .before .before .before .before .before .before .before .before .before .before .before .put-reply .kept, c .before .before .before .before .before .before .before .before .before .before .before .before .before .before .before .before .before .pre)
+put-reply-requires-2 c κs = omega (arith, c .before .before .before .before .before .before .before .loop-test, c .before .before .before .before .before .before .before .before .loop .inv, c .before .before .before .before .before .before .before .before .before .before .before .put-reply .kept, c .before .before .before .before .before .before .before .before .before .before .before .before .before .before .before .before .pre)
 
 first-of-requires : tie.Need-first-of-requires Inv-loop μ-loop
 first-of-requires c κs = search needs
 
 add-i : tie.Need-add-i Inv-loop μ-loop
-add-i c = omega (arith, c .before .before .before .before .before .before .before .before .before .before .before .before .loop-test, c .before .before .before .before .before .before .before .before .before .before .before .before .before .before .before .before .before .before .before .before .before .before .pre)
+add-i c = omega (arith, c .before .before .before .before .before .before .before .before .before .before .before .before .loop-test, c .before .before .before .before .before .before .before .before .before .before .before .before .before .before .before .before .before .before .before .before .before .pre)
 
 loop-less : tie.Need-loop-less Inv-loop μ-loop
 loop-less c = search needs
 
 loop-again : tie.Need-loop-again Inv-loop μ-loop
 loop-again c =
-    let a = c .before .before .before .before .before .before .before .before .before .before .before .before .before .before .before .before .before .before .before .before .before .before .args in
+    let a = c .before .before .before .before .before .before .before .before .before .before .before .before .before .before .before .before .before .before .before .before .before .args in
     let loop = c .before .before .before .before .before .before .before .before .before .before .before .before .before .loop in
     let step = c .before .before .before .before .before .before .before .before .before .step in
     let laid = c .before .before .before .before .put-reply2 in
@@ -82,13 +79,13 @@ same-length-2 c = search needs
 
 returns : tie.Need-returns Inv-loop μ-loop
 returns c =
-    let a = c .before .before .before .before .before .before .before .before .before .before .args in
+    let a = c .before .before .before .before .before .before .before .before .before .args in
     let loop = c .before .loop in
     let end : loop .i ≡ length (a .fed .now) = omega arith in
     let met =
-    delivers (a .room .now) (a .session) (a .memory .now) (a .fed .now) (c .before .before .before .before .before .before .before .before .before .before .pre .0) (c .before .before .before .before .before .before .before .before .before .before .pre .1 .1) (loop .count) (loop .first)
+    delivers (a .room .now) (a .session) (a .opening) (a .memory .now) (a .fed .now) (c .before .before .before .before .before .before .before .before .before .pre .0) (c .before .before .before .before .before .before .before .before .before .pre .1 .0) (c .before .before .before .before .before .before .before .before .before .pre .1 .1 .1) (loop .count) (loop .first)
     (ap (reached (loop .room) (loop .count) (loop .first)) (sym (all-fed (loop .live) (loop .memory) (a .fed .now) (loop .i) end))
-    ∙ loop .inv .5 ∙ rw (c .before .before .before .before .put-reply .ensures .1, c .before .before .before .before .put-reply .ensures .0, c .before .before .before .before .before .greet .ensures)) in
+    ∙ loop .inv .5 ∙ rw (c .before .before .before .before .put-reply .ensures .1, c .before .before .before .before .put-reply .ensures .0)) in
     (omega (arith, met .0), met .1)
 
 pub feed-all-spec : {M : Type 1} → statement M
@@ -97,7 +94,6 @@ feed-all-spec =
     (tie.spec
     Inv-loop
     μ-loop
-    greet-requires
     put-reply-requires
     loop-holds
     shared-slice-read-step

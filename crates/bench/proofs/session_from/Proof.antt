@@ -27,8 +27,8 @@ refuse-requires-2 c κs = search needs
 
 returns-2 : tie.Need-returns-2
 returns-2 c =
-    let a = c .before .before .before .before .before .before .before .before .before .before .args in
-    let opened = sym (c .before .before .before .before .before .before .number .ensures) ∙ c .before .before .before .before .before .if1 .left in
+    let a = c .before .before .before .before .before .before .before .before .before .before .before .args in
+    let opened = sym (c .before .before .before .before .before .before .before .number .ensures) ∙ c .before .before .before .before .before .before .if1 .left in
     rw (from-memory (a .opened) (a .memory .now) (a .fed .now) (length (a .room .now)) opened (λ e. c .before .if2 .taken (e ∙ sym (c .before .before .sum .ensures))))
     (untouched _ _ _ _ (c .refuse2 .ensures))
 
@@ -40,15 +40,17 @@ refuse-requires-3 c κs = search needs
 
 returns-3 : tie.Need-returns-3
 returns-3 c =
-    let a = c .before .before .before .before .before .before .before .before .before .before .before .before .args in
-    let opened = sym (c .before .before .before .before .before .before .before .before .number .ensures) ∙ c .before .before .before .before .before .before .before .if1 .left in
+    let a = c .before .before .before .before .before .before .before .before .before .before .before .before .before .args in
+    let opened = sym (c .before .before .before .before .before .before .before .before .before .number .ensures) ∙ c .before .before .before .before .before .before .before .before .if1 .left in
     let lent = c .before .before .before .if2 .left ∙ c .before .before .before .before .sum .ensures in
     let narrow = sym (c .before .before .is-roomy .ensures) ∙ not-true _ (c .before .if3 .taken) in
     rw (from-narrow (a .opened) (a .memory .now) (a .fed .now) (length (a .room .now)) opened lent narrow)
     (untouched _ _ _ _ (c .refuse3 .ensures))
 
 feed-all-requires : tie.Need-feed-all-requires
-feed-all-requires c κs = (c .before .before .before .before .before .before .before .before .before .before .before .before .before .pre, has-room _ _ (sym (c .before .before .before .is-roomy .ensures) ∙ not-false _ (c .before .before .if3 .left)))
+feed-all-requires c κs =
+    let pre = c .before .before .before .before .before .before .before .before .before .before .before .before .before .before .pre in
+    (pre .0, (pre .1, has-room _ _ (sym (c .before .before .before .is-roomy .ensures) ∙ not-false _ (c .before .before .if3 .left))))
 
 same-length : tie.Need-same-length
 same-length c = search needs
@@ -58,8 +60,8 @@ same-length-2 c = search needs
 
 returns-4 : tie.Need-returns-4
 returns-4 c =
-    let a = c .before .before .before .before .before .before .before .before .before .before .before .before .before .before .before .before .before .before .args in
-    let opened = sym (c .before .before .before .before .before .before .before .before .before .before .before .before .before .before .number .ensures) ∙ c .before .before .before .before .before .before .before .before .before .before .before .before .before .if1 .left in
+    let a = c .before .before .before .before .before .before .before .before .before .before .before .before .before .before .before .before .before .before .before .args in
+    let opened = sym (c .before .before .before .before .before .before .before .before .before .before .before .before .before .before .before .number .ensures) ∙ c .before .before .before .before .before .before .before .before .before .before .before .before .before .before .if1 .left in
     let lent = c .before .before .before .before .before .before .before .before .before .if2 .left ∙ c .before .before .before .before .before .before .before .before .before .before .sum .ensures in
     let wide = sym (c .before .before .before .before .before .before .before .before .is-roomy .ensures) ∙ not-false _ (c .before .before .before .before .before .before .before .if3 .left) in
     rw (from-fed (a .opened) (a .memory .now) (a .fed .now) (length (a .room .now)) opened lent wide) (c .before .before .before .before .feed-all .ensures)

@@ -1,39 +1,36 @@
 -- `commands::fill_bytes` meets its contract: after i turns the first i bytes are written, and those that would pass the end are none.
+use borrow.Author.Needs.{needs}
 use Prim.Native.Nat.{ℕ, _-_, _%_, _≤_, min, _<_}
 use mathlib.Core.Path.{_≡_, sym, ap, _∙_}
-use lib.ListN.{length}
-use Rattle.words.specs.Bytes.{byte, put}
-use Rattle.commands.specs.Commands.{unitOf, filled}
-use borrow.Author.Needs.{needs}
-use native.Mathlib.Omega.{arith}
-use denote.Ref.{now}
-use lib.Pow.{pow-pos, pow-mono}
-use Rattle.words.proofs.Puts.{length-put, put-more, put-past, put-clamped}
 use native.Mathlib.Nat.{mod-lt, lt-of-lt-of-le}
+use native.Mathlib.Omega.{arith}
+use lib.ListN.{length}
+use denote.Ref.{now}
+use Rattle.words.specs.Bytes.{byte, put, sizeOf}
+use Rattle.words.proofs.Puts.{length-put, put-more, put-past, put-clamped}
+use Rattle.words.proofs.Units.{size-above, size-within}
+use Rattle.commands.specs.Commands.{filled}
 use Rattle.commands.proofs.fill_bytes.Statement.{statement}
 use Rattle.commands.proofs.fill_bytes.Tie as tie
 
 abbrev Inv-loop : tie.InvT-loop
-Inv-loop memory₀ place size kind pattern unit n i₀ memory i = (i ≤ n) × (memory ≡ put memory₀ place i (λ k. byte pattern (k % unitOf kind)))
+Inv-loop memory₀ place size pattern bytes n i₀ memory i = (i ≤ n) × (memory ≡ put memory₀ place i (λ k. byte pattern (k % bytes)))
 
 abbrev μ-loop : tie.MeasureT-loop
-μ-loop memory₀ place size kind pattern unit n i₀ memory i = n - i
+μ-loop memory₀ place size pattern bytes n i₀ memory i = n - i
 
 -- a place in the unit is below four
-in-unit : (c : tie.In-loop Inv-loop μ-loop) → c .before .loop .i % (c .before .before .before .unit-bytes .result) < 4
+in-unit : (c : tie.In-loop Inv-loop μ-loop) → c .before .loop .i % (c .before .before .before .size .result) < 4
 in-unit c =
-    rw (c .before .before .before .unit-bytes .ensures)
-    (lt-of-lt-of-le (mod-lt (c .before .loop .i) (pow-pos (c .before .before .before .before .before .before .args .kind))) (pow-mono {j = 2} (c .before .before .before .before .before .before .pre)))
+    rw (c .before .before .before .size .ensures)
+    (lt-of-lt-of-le (mod-lt (c .before .loop .i) (size-above (c .before .before .before .before .before .before .args .unit))) (size-within (c .before .before .before .before .before .before .args .unit)))
 
 returns : tie.Need-returns Inv-loop μ-loop
 unfolding filled
 returns c = sym (put-past _ _ _ _ (c .if1 .taken))
 
-unit-bytes-requires : tie.Need-unit-bytes-requires Inv-loop μ-loop
-unit-bytes-requires c κs = search needs
-
-cast-unit : tie.Need-cast-unit Inv-loop μ-loop
-cast-unit c = search needs
+size-requires : tie.Need-size-requires Inv-loop μ-loop
+size-requires c κs = search needs
 
 sub-least : tie.Need-sub-least Inv-loop μ-loop
 sub-least c = search needs
@@ -46,7 +43,7 @@ unfolding put
 loop-holds c = search needs
 
 rem-memory : tie.Need-rem-memory Inv-loop μ-loop
-rem-memory c = rw (c .before .before .before .unit-bytes .ensures) (pow-pos _)
+rem-memory c = rw (c .before .before .before .size .ensures) (size-above (c .before .before .before .before .before .before .args .unit))
 
 mul-memory : tie.Need-mul-memory Inv-loop μ-loop
 mul-memory c = omega (arith, in-unit c)
@@ -74,7 +71,7 @@ loop-less c = search needs
 
 loop-again : tie.Need-loop-again Inv-loop μ-loop
 unfolding byte
-loop-again c = (omega arith, rw (put-more, ← (c .before .loop .inv .1), ← (c .before .before .before .unit-bytes .ensures)))
+loop-again c = (omega arith, rw (put-more, ← (c .before .loop .inv .1)))
 
 same-length : tie.Need-same-length Inv-loop μ-loop
 same-length c = rw (c .before .loop .inv .1) (length-put _ _ _ _)
@@ -84,8 +81,9 @@ unfolding filled
 returns-2 c =
     let a = c .before .before .before .before .before .before .args in
     let all : c .before .loop .i ≡ min (a .size) (length (now (a .memory)) - a .place) = omega arith in
-    c .before .loop .inv .1 ∙ ap (λ (k : ℕ). put (now (a .memory)) (a .place) k (λ (i : ℕ). byte (a .pattern) (i % unitOf (a .kind)))) all
-    ∙ sym (put-clamped (now (a .memory)) (a .place) (a .size) (λ (i : ℕ). byte (a .pattern) (i % unitOf (a .kind))))
+    rw (c .before .before .before .size .ensures) at (c .before .loop .inv .1)
+    ∙ ap (λ (k : ℕ). put (now (a .memory)) (a .place) k (λ (i : ℕ). byte (a .pattern) (i % sizeOf (a .unit)))) all
+    ∙ sym (put-clamped (now (a .memory)) (a .place) (a .size) (λ (i : ℕ). byte (a .pattern) (i % sizeOf (a .unit))))
 
 pub fill-bytes-spec : {M : Type 1} → statement M
 fill-bytes-spec =
@@ -94,8 +92,7 @@ fill-bytes-spec =
     Inv-loop
     μ-loop
     returns
-    unit-bytes-requires
-    cast-unit
+    size-requires
     sub-least
     least-requires
     loop-holds

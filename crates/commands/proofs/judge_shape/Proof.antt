@@ -12,8 +12,11 @@ enum-told c = search needs
 enum-known-shape : tie.Need-enum-known-shape
 enum-known-shape c = search needs
 
-judge-unit-requires : tie.Need-judge-unit-requires
-judge-unit-requires c κs = search needs
+unit-bytes-requires : tie.Need-unit-bytes-requires
+unit-bytes-requires c κs = search needs
+
+judge-units-requires : tie.Need-judge-units-requires
+judge-units-requires c κs = search needs
 
 returns : tie.Need-returns
 returns c =
@@ -22,9 +25,17 @@ returns c =
 
 returns-2 : tie.Need-returns-2
 returns-2 c =
-    let a = c .before .before .before .before .args in
-    c .judge-unit .ensures ∙ sym (ap (λ (s : Shape). shapeJudged (a .windows) s (a .address)) (c .before .before .shape .given .1))
+    let a = c .before .before .before .before .before .args in
+    rw (c .before .unit-bytes .ensures) at (c .judge-units .ensures)
+    ∙ sym (ap (λ (s : Shape). shapeJudged (a .windows) s (a .address)) (c .before .before .before .shape .given .1))
 
 pub judge-shape-spec : {M : Type 1} → statement M
 judge-shape-spec =
-    tie.close (tie.spec enum-told enum-known-shape judge-unit-requires returns returns-2)
+    tie.close
+    (tie.spec
+    enum-told
+    enum-known-shape
+    unit-bytes-requires
+    judge-units-requires
+    returns
+    returns-2)

@@ -5,20 +5,20 @@ use native.Mathlib.Nat.{mul-le-mul}
 use native.Mathlib.Omega.{arith}
 use borrow.Author.Tests.{not-true, not-false}
 use lib.ListN.{length}
-use Rattle.flash.specs.Sessions.{_leaving_}
-use Rattle.runs.specs.Run.{carriedOn}
+use Rattle.flash.specs.Step.{stepOf}
+use Rattle.runs.specs.Run.{carriedOn, runOf}
 use borrow.Author.Needs.{needs}
 use Rattle.runs.proofs.Calls.{stays, spent, passes, delivers}
 use Rattle.runs.proofs.run.Statement.{statement}
 use Rattle.runs.proofs.run.Tie as tie
 
 abbrev Inv-loop : tie.InvT-loop
-Inv-loop memory₀ image left₀ last₀ memory left last =
+Inv-loop memory₀ image left₀ live₀ memory left live =
     (length memory ≡ length memory₀)
-    × (carriedOn left (last leaving memory) image ≡ carriedOn left₀ (last₀ leaving memory₀) image)
+    × (carriedOn left (stepOf live memory image) image ≡ carriedOn left₀ (stepOf live₀ memory₀ image) image)
 
 abbrev μ-loop : tie.MeasureT-loop
-μ-loop memory₀ image left₀ last₀ memory left last = left
+μ-loop memory₀ image left₀ live₀ memory left live = left
 
 cast-left : tie.Need-cast-left Inv-loop μ-loop
 cast-left c = search needs
@@ -34,28 +34,35 @@ mul-left c =
     let session = c .before .before .before .before .args .session in
     omega (arith, mul-le-mul {n₁ = session .limit + 1} {m₁ = session .length / 4} {n₂ = 256} {m₂ = 2 ^ 30} (omega arith) (omega arith))
 
-step-requires : tie.Need-step-requires Inv-loop μ-loop
-step-requires c κs = search needs
-
 loop-holds : tie.Need-loop-holds Inv-loop μ-loop
 loop-holds c = search needs
 
-goes-on-requires : tie.Need-goes-on-requires Inv-loop μ-loop
-goes-on-requires c κs = search needs
+step-requires : tie.Need-step-requires Inv-loop μ-loop
+step-requires c κs = search needs
 
 same-length : tie.Need-same-length Inv-loop μ-loop
 same-length c = search needs
 
 returns : tie.Need-returns Inv-loop μ-loop
+unfolding runOf
 returns c =
-    let at = c .before .before .before in
-    let first = at .before .before .before in
-    let session = first .before .before .before .before .before .before .args .session in
-    let over = sym (c .before .goes-on .ensures) ∙ not-true _ (c .if1 .taken) in
-    delivers _ session _ (first .step .ensures .0) (first .step .ensures .1) (sym (stays _ (at .loop .left) _ over) ∙ at .loop .inv .1)
+    let step = c .before .before .before .step in
+    let loop = c .before .before .before .before .before .loop in
+    delivers _ (loop .live) (loop .memory) (step .ensures .0) (step .ensures .1) (loop .left) (spent _ _ _ (c .if1 .taken)) (loop .inv .1)
 
-step-requires-2 : tie.Need-step-requires-2 Inv-loop μ-loop
-step-requires-2 c κs = search needs
+goes-on-requires : tie.Need-goes-on-requires Inv-loop μ-loop
+goes-on-requires c κs = search needs
+
+same-length-2 : tie.Need-same-length-2 Inv-loop μ-loop
+same-length-2 c = search needs
+
+returns-2 : tie.Need-returns-2 Inv-loop μ-loop
+unfolding runOf
+returns-2 c =
+    let step = c .before .before .before .before .before .step in
+    let loop = c .before .before .before .before .before .before .before .loop in
+    let over = sym (c .before .goes-on .ensures) ∙ not-true _ (c .if2 .taken) in
+    delivers _ (loop .live) (loop .memory) (step .ensures .0) (step .ensures .1) (loop .left) (stays _ (loop .left) _ over) (loop .inv .1)
 
 sub-left : tie.Need-sub-left Inv-loop μ-loop
 sub-left c = search needs
@@ -65,22 +72,12 @@ loop-less c = search needs
 
 loop-again : tie.Need-loop-again Inv-loop μ-loop
 loop-again c =
-    let went = c .before .before .before .before .before in
-    let loop = went .before .before .before .loop in
-    let next = c .before .before .step2 in
-    let more = sym (went .before .goes-on .ensures) ∙ not-false _ (went .if1 .left) in
-    (search needs, passes _ (loop .left) (loop .last) _ (omega arith) more (next .ensures .0) (next .ensures .1) ∙ loop .inv .1)
-
-same-length-2 : tie.Need-same-length-2 Inv-loop μ-loop
-same-length-2 c = search needs
-
-returns-2 : tie.Need-returns-2 Inv-loop μ-loop
-returns-2 c =
-    let at = c .before in
-    let first = at .before .before .before in
-    let session = first .before .before .before .before .before .before .args .session in
-    delivers _ session _ (first .step .ensures .0) (first .step .ensures .1)
-    (sym (spent _ (at .loop .left) _ (omega arith)) ∙ at .loop .inv .1)
+    let step = c .before .before .before .before .before .before .step in
+    let loop = c .before .before .before .before .before .before .before .before .loop in
+    let more = sym (c .before .before .goes-on .ensures) ∙ not-false _ (c .before .if2 .left) in (
+      search needs,
+      passes _ (loop .live) (loop .memory) (step .ensures .0) (step .ensures .1) (loop .left) (c .before .before .before .if1 .left) more ∙ loop .inv .1,
+    )
 
 pub run-spec : {M : Type 1} → statement M
 run-spec =
@@ -92,14 +89,13 @@ run-spec =
     add-left
     cast-left-2
     mul-left
-    step-requires
     loop-holds
-    goes-on-requires
+    step-requires
     same-length
     returns
-    step-requires-2
+    goes-on-requires
+    same-length-2
+    returns-2
     sub-left
     loop-less
-    loop-again
-    same-length-2
-    returns-2)
+    loop-again)

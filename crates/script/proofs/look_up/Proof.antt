@@ -1,23 +1,27 @@
--- `script::look_up` meets its contract: the rows not yet looked at lead to the same answer as all of them.
-use Prim.Native.Nat.{_-_, _≤_}
-use mathlib.Core.Path.{_≡_, sym, _∙_}
+-- `script::look_up` meets its contract: what was found is what the rows from the place on answer.
+use Prim.Native.Nat.{ℕ, _+_, _-_, _≤_}
+use mathlib.Core.Path.{_≡_, sym, ap, _∙_}
 use lib.ListN.{drop}
+use Rattle.words.specs.Choice.{pick}
 use Rattle.script.specs.Opcodes.{rows, foundIn, lookedUp}
 use borrow.Author.Needs.{needs}
 use native.Mathlib.Omega.{arith}
-use Rattle.script.proofs.Rows.{found-here, found-later}
+use Rattle.script.proofs.Rows.{found-from}
 use Rattle.script.proofs.look_up.Statement.{statement}
 use Rattle.script.proofs.look_up.Tie as tie
 
 abbrev Inv-loop : tie.InvT-loop
-Inv-loop opcode mode i₀ i = (i ≤ 12) × (foundIn (drop i rows) opcode mode ≡ lookedUp opcode mode)
+Inv-loop opcode mode table found₀ i₀ found i = (i ≤ 12) × (found ≡ foundIn (drop i rows) opcode mode)
 
 abbrev μ-loop : tie.MeasureT-loop
-μ-loop opcode mode i₀ i = 12 - i
+μ-loop opcode mode table found₀ i₀ found i = i
 
 loop-holds : tie.Need-loop-holds Inv-loop μ-loop
-unfolding lookedUp
+unfolding rows foundIn
 loop-holds c = search needs
+
+sub-i : tie.Need-sub-i Inv-loop μ-loop
+sub-i c = search needs
 
 mul-row : tie.Need-mul-row Inv-loop μ-loop
 mul-row c = search needs
@@ -25,17 +29,8 @@ mul-row c = search needs
 array-copy-out-row : tie.Need-array-copy-out-row Inv-loop μ-loop
 array-copy-out-row c = search needs
 
-serves-requires : tie.Need-serves-requires Inv-loop μ-loop
-serves-requires c κs = search needs
-
-returns : tie.Need-returns Inv-loop μ-loop
-unfolding rows
-returns c =
-    let inv = c .before .before .before .before .loop .inv in
-    sym (found-here rows _ _ _ _ (c .before .before .before .loop-test .taken) (sym (c .before .serves .ensures) ∙ c .if1 .taken)) ∙ inv .1
-
-add-i : tie.Need-add-i Inv-loop μ-loop
-add-i c = search needs
+row-first-requires : tie.Need-row-first-requires Inv-loop μ-loop
+row-first-requires c κs = search needs
 
 loop-less : tie.Need-loop-less Inv-loop μ-loop
 loop-less c = search needs
@@ -43,16 +38,21 @@ loop-less c = search needs
 loop-again : tie.Need-loop-again Inv-loop μ-loop
 unfolding rows
 loop-again c =
-    let inv = c .before .before .before .before .loop .inv in (
+    let inv = c .before .before .before .loop .inv in
+    let i = c .before .before .before .loop .i in
+    let a = c .before .before .before .before .args in
+    let again : i ≡ i - 1 + 1 = omega arith in (
       omega arith,
-      sym (found-later rows _ _ _ _ (c .before .before .before .loop-test .taken) (sym (c .before .serves .ensures) ∙ c .if1 .left)) ∙ inv .1,
+      c .row-first .ensures
+          ∙ ap (pick _ _) (inv .1 ∙ ap (λ (k : ℕ). foundIn (drop k rows) (a .opcode) (a .mode)) again)
+          ∙ sym (found-from rows _ _ (i - 1) _ (omega arith)),
     )
 
-returns-2 : tie.Need-returns-2 Inv-loop μ-loop
-unfolding rows foundIn
-returns-2 c =
-    let all : c .before .loop .i ≡ 12 = omega arith in
-    rw all at (c .before .loop .inv .1)
+returns : tie.Need-returns Inv-loop μ-loop
+unfolding lookedUp
+returns c =
+    let none : c .before .loop .i ≡ 0 = omega arith in
+    rw none at (c .before .loop .inv .1)
 
 pub look-up-spec : {M : Type 1} → statement M
 look-up-spec =
@@ -61,11 +61,10 @@ look-up-spec =
     Inv-loop
     μ-loop
     loop-holds
+    sub-i
     mul-row
     array-copy-out-row
-    serves-requires
-    returns
-    add-i
+    row-first-requires
     loop-less
     loop-again
-    returns-2)
+    returns)

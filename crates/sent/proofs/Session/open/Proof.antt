@@ -16,6 +16,9 @@ returns : tie.Need-returns
 unfolding openedBy
 returns c = c .shut .ensures ∙ sym (chosen _ _ _ (rw (c .before .before .is-good .ensures) at (c .before .if1 .taken)))
 
+greet-requires : tie.Need-greet-requires
+greet-requires c κs = search needs
+
 kept-requires : tie.Need-kept-requires
 kept-requires c κs = search needs
 
@@ -24,9 +27,18 @@ begin-requires c κs = search needs
 
 returns-2 : tie.Need-returns-2
 unfolding openedBy
-returns-2 c = rw (c .begin .ensures, c .before .kept .ensures) (sym (passed _ _ _ (rw (c .before .before .before .is-good .ensures) at (c .before .before .if1 .left))))
+returns-2 c =
+    rw (c .begin .ensures, c .before .kept .ensures, c .before .before .greet .ensures)
+    (sym (passed _ _ _ (rw (c .before .before .before .before .is-good .ensures) at (c .before .before .before .if1 .left))))
 
 pub open-spec : {M : Type 1} → statement M
 open-spec =
     tie.close
-    (tie.spec is-good-requires shut-requires returns kept-requires begin-requires returns-2)
+    (tie.spec
+    is-good-requires
+    shut-requires
+    returns
+    greet-requires
+    kept-requires
+    begin-requires
+    returns-2)

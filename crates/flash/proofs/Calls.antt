@@ -1,0 +1,213 @@
+-- The law of a call, by the cases of the rules: the words that the table gives a command are those that it passes, and a command that was judged is accepted
+-- or ends the session.
+use Prim.Native.Nat.{ℕ, _+_, _*_, _/_, _≤_, _<_}
+use mathlib.Core.Bool.{Bool, true, false, _||_, true≢false}
+use mathlib.Core.List.{List}
+use mathlib.Core.Logic.{_≢_}
+use mathlib.Core.Path.{_≡_, refl, sym, subst, _∙_}
+use native.Mathlib.Omega.{arith}
+use lib.Dec.{eqb}
+use lib.ListN.{length}
+use borrow.Author.Tests.{leb-true, leb-false, eqb-true, eq-eqb, ne-eqb, not-false}
+use Rattle.words.specs.Bytes.{wordAt}
+use Rattle.words.specs.Choice.{pick}
+use Rattle.words.proofs.Choice.{chosen, passed, both, of-choice}
+use Rattle.script.specs.Answers.{numberOf, kindOf}
+use Rattle.script.specs.Opcodes.{lookedUp}
+use Rattle.script.specs.declared.Command.{Command}
+use Rattle.script.specs.declared.Command.the-variants as command
+use Rattle.script.specs.declared.Event.{Event}
+use Rattle.script.specs.declared.Found.{Found}
+use Rattle.script.specs.declared.Found.the-variants.{Known, Unknown}
+use Rattle.script.specs.declared.Mode.the-variants.{Flash}
+use Rattle.script.specs.declared.Refusal.{Refusal}
+use Rattle.script.specs.declared.Refusal.the-variants as refusal
+use Rattle.script.proofs.Counts.{rowIs, row-is}
+use Rattle.commands.specs.declared.Done.{Done}
+use Rattle.commands.specs.declared.Judged.{Judged}
+use Rattle.commands.specs.declared.Sought.{Sought}
+use Rattle.flash.specs.Calls.{dataWords, Reads, spares, Way, forward, back, kept, Call, EveryCall}
+use Rattle.flash.specs.Opening.{goodLength}
+use Rattle.flash.specs.Sessions.{Outcome, changed, unchanged, stopped, accepted}
+use Rattle.flash.specs.Step.{present, argument, after, loadAt, loadJudgedAs, soughtAs, requested, entered, performed, atRow, stepOf}
+use Rattle.flash.specs.declared.Called.{Called}
+use Rattle.flash.specs.declared.Session.{Session}
+use Rattle.flash.proofs.Verdicts.{Ending, ends, Judges, grants, denies, load-judges, Answers, accepts, rejects, fill-answers, setting-answers, jump-answers, close-answers, Leads, leads, astray, seek-leads, shortage-ends}
+
+-- words are there up to an offset
+there : (image : List ℕ) (at n : ℕ) → present image at n ≡ true → at + 4 * n ≤ length image
+unfolding present
+there image at n e = leb-true _ _ e
+
+-- a refusal that ends the session is not 14
+not-over : (q : Refusal) → spares q ≡ false → eqb (numberOf q) 14 ≡ false
+not-over q = last (eqb (numberOf q) 2 || eqb (numberOf q) 3) (eqb (numberOf q) 14)
+  where
+    last : (a b : Bool) → (a || b) ≡ false → b ≡ false
+    last true b e = absurd (true≢false e)
+    last false b e = e
+
+module _ (s : Session) (image : List ℕ) where
+  -- an answer with what a call may change of the session
+  answered : {q : Refusal} {told : Event} {at : ℕ} {over switch : Bool} {register offset retries : ℕ}
+      → Way s image (record { refusal = q; event = told; at = at; session = changed s over switch register offset retries })
+      → eqb (numberOf q) 14 ≡ s .ended → at ≡ pick (spares q) 0 (s .offset)
+      → Call s image (record { refusal = q; event = told; at = at; session = changed s over switch register offset retries })
+  answered way over at = record { way = way; same-windows = refl; same-length = refl; same-limit = refl; over = over; at = at }
+
+  -- refused, the session spared
+  spared : (q : Refusal) → spares q ≡ true → numberOf q ≢ 0 → eqb (numberOf q) 14 ≡ s .ended → Call s image (unchanged q s)
+  spared q spare low over =
+      answered
+      (kept (record { refused = low; offset = refl; retries = refl; spared = λ e. refl; ended = λ e. absurd (true≢false (sym spare ∙ e)) }))
+      over (sym (chosen _ _ _ spare))
+
+  module _ (standing : s .ended ≡ false) where
+    -- refused, the session ended
+    stops : (q : Refusal) {switch : Bool} {register : ℕ} → Ending q
+        → Call s image (stopped q (changed s (s .ended) switch register (s .offset) (s .retries)))
+    stops q e =
+        answered
+        (kept
+        (record {
+          refused = e .refused;
+          offset = refl;
+          retries = refl;
+          spared = λ spare. absurd (true≢false (sym spare ∙ e .unspared));
+          ended = λ e. refl;
+        }))
+        (not-over q (e .unspared) ∙ sym standing) (sym (passed _ _ _ (e .unspared)))
+
+    -- accepted, past the words of the command
+    passes : {c : Command} {words : ℕ} {told : Event} {over switch : Bool} {register offset : ℕ} → Reads s image c words
+        → offset ≡ s .offset + 4 * words → over ≡ eqb (kindOf told) 3 → (kindOf told ≡ 3 → c ≡ command.JumpAndClose)
+        → Call s image (accepted s told (changed s over switch register offset (s .retries)))
+    passes {c} {words} reads past ended entering =
+        answered
+        (forward
+        (record {
+          command = c;
+          words = words;
+          reads = reads;
+          accepted = refl;
+          offset = past;
+          retries = refl;
+          ended = ended;
+          entering = entering;
+        }))
+        (sym standing) (sym (passed _ _ _ refl))
+
+    -- accepted with no event of entering, and going on
+    goes-on : {c : Command} {words : ℕ} {told : Event} {switch : Bool} {register offset : ℕ} → kindOf told ≢ 3 → Reads s image c words
+        → offset ≡ s .offset + 4 * words → Call s image (accepted s told (changed s (s .ended) switch register offset (s .retries)))
+    goes-on other reads past = passes reads past (standing ∙ sym (ne-eqb _ _ other)) (λ e. absurd (other e))
+
+    -- a command of n words that was judged
+    after-call : {c : Command} {kind : ℕ} {done : Done} (n : ℕ) → kind ≢ 3 → Answers kind done → Reads s image c n → Call s image (after s done n)
+    unfolding after
+    after-call n other (accepts e k) reads =
+        subst (Call s image) (sym (chosen _ _ _ (eq-eqb _ _ e))) (goes-on (λ z. other (sym k ∙ z)) reads refl)
+    after-call n other (rejects e) reads = subst (Call s image) (sym (passed _ _ _ (ne-eqb _ _ (e .refused)))) (stops _ e)
+
+    entered-call : {done : Done} (n : ℕ) → Answers 3 done → Reads s image command.JumpAndClose n → Call s image (entered (after s done n))
+    unfolding after
+    entered-call n (accepts e k) reads =
+        subst (λ (a : Called). Call s image (entered a)) (sym (chosen _ _ _ (eq-eqb _ _ e)))
+        (passes reads refl (sym (eq-eqb _ _ k)) (λ z. refl))
+    entered-call n (rejects e) reads =
+        subst (λ (a : Called). Call s image (entered a)) (sym (passed _ _ _ (ne-eqb _ _ (e .refused)))) (stops _ e)
+
+    module _ {words : ℕ} (reads : Reads s image command.Request words) where
+      sought-call : {led : Sought} → Leads (s .offset) led → s .retries < s .limit → Call s image (soughtAs s led)
+      sought-call (leads aligned low below) left =
+          answered
+          (back
+          (record {
+            words = words;
+            reads = reads;
+            accepted = refl;
+            aligned = aligned;
+            low = low;
+            below = below;
+            left = left;
+            counted = refl;
+            running = standing;
+          }))
+          (sym standing) (sym (passed _ _ _ refl))
+      sought-call (astray e) left = stops _ e
+
+      request-call : (expected seek : ℕ) → words ≡ 3 → Call s image (requested s expected seek)
+      unfolding requested
+      request-call expected seek three =
+          of-choice (Call s image) _ (λ e. goes-on (λ z. omega arith) reads (omega arith))
+          (λ e. of-choice (Call s image) _ (λ e. stops refusal.Checksum (ends refusal.Checksum refl))
+          (λ e. sought-call (seek-leads (s .offset) seek) (leb-false _ _ e)))
+
+    module _ (m : List ℕ) (same : length image ≡ s .length) where
+      -- what holds of an outcome holds of its answer
+      abbrev Answered : Outcome → Type 0
+      Answered o = Call s image (o .answer)
+
+      -- a row that is found, and its command's words
+      module _ {c : Command} {arguments : ℕ} (known : lookedUp (wordAt image (s .offset)) Flash ≡ Known c arguments) where
+        read : (words : ℕ) → words ≡ 1 + arguments + dataWords c s image → s .offset + 4 * words ≤ length image → Reads s image c words
+        read words count present = record { arguments = arguments; row = known; count = count; present = present; lent = same }
+
+      load-call : {arguments : ℕ} {j : Judged} → lookedUp (wordAt image (s .offset)) Flash ≡ Known command.Load arguments → arguments ≡ 2
+          → Judges j → Answered (loadJudgedAs s m image (argument s image 0) (argument s image 1) j)
+      unfolding loadAt
+      load-call known two grants =
+          of-choice Answered _ (λ e. stops _ (shortage-ends image _))
+          (λ e. goes-on (λ z. omega arith)
+          (read known (3 + dataWords command.Load s image) (omega arith) (omega (arith, there image _ _ (not-false _ e)))) (omega arith))
+      load-call known two (denies e) = stops _ e
+
+      -- each command whose argument words are there
+      performed-call : (c : Command) (arguments : ℕ) → rowIs Flash c arguments ≡ true → lookedUp (wordAt image (s .offset)) Flash ≡ Known c arguments
+          → s .offset + 4 + 4 * arguments ≤ length image → Answered (performed c s m image)
+      unfolding rowIs
+      performed-call command.Load n row known h =
+          load-call known (eqb-true n 2 row) (load-judges (s .windows) (argument s image 0) (argument s image 1))
+      performed-call command.Fill n row known h =
+          let four = eqb-true n 4 row in
+          after-call 5 (λ z. omega arith) (fill-answers _ _ _ _ _ _ _) (read known 5 (omega arith) (omega arith))
+      performed-call command.BootTable n row known h =
+          let four = eqb-true n 4 row in
+          after-call 5 (λ z. omega arith) (setting-answers _ _ _ _ _) (read known 5 (omega arith) (omega arith))
+      performed-call command.Enable n row known h =
+          let none = eqb-true n 0 row in
+          goes-on (λ z. omega arith) (read known 1 (omega arith) (omega arith)) (omega arith)
+      performed-call command.Disable n row known h =
+          let none = eqb-true n 0 row in
+          goes-on (λ z. omega arith) (read known 1 (omega arith) (omega arith)) (omega arith)
+      performed-call command.Request n row known h =
+          let two = eqb-true n 2 row in
+          request-call (read known 3 (omega arith) (omega arith)) _ _ refl
+      performed-call command.StartOver n row known h = absurd (true≢false (sym row))
+      performed-call command.Jump n row known h =
+          let one = eqb-true n 1 row in
+          after-call 2 (λ z. omega arith) (jump-answers _ _ _) (read known 2 (omega arith) (omega arith))
+      performed-call command.JumpAndClose n row known h =
+          let one = eqb-true n 1 row in
+          entered-call 2 (close-answers _ _ _) (read known 2 (omega arith) (omega arith))
+      performed-call command.Ping n row known h = absurd (true≢false (sym row))
+      performed-call command.SequentialRead n row known h =
+          let none = eqb-true n 0 row in
+          goes-on (λ z. omega arith) (read known 1 (omega arith) (omega arith)) (omega arith)
+
+      row-call : (found : Found) → lookedUp (wordAt image (s .offset)) Flash ≡ found → Answered (atRow s m image found)
+      row-call Unknown found = stops refusal.Opcode (ends refusal.Opcode refl)
+      row-call (Known c arguments) found =
+          of-choice Answered _ (λ e. stops _ (shortage-ends image _))
+          (λ e. performed-call c arguments (row-is Flash _ c arguments found) found (there image _ _ (not-false _ e)))
+
+pub every-call : EveryCall
+unfolding stepOf
+every-call s m image =
+    let Answered : Outcome → Type 0 = λ o. Call s image (o .answer) in
+    of-choice Answered _ (λ over. spared s image refusal.Ended refl (λ z. omega arith) (sym over))
+    (λ standing. of-choice Answered _ (λ e. spared s image refusal.Memory refl (λ z. omega arith) (sym standing))
+    (λ e. of-choice Answered _ (λ e. spared s image refusal.Image refl (λ z. omega arith) (sym standing))
+    (λ sound. of-choice Answered _ (λ e. stops s image standing _ (shortage-ends image _))
+    (λ e. row-call s image standing m (eqb-true _ _ (both (goodLength (length image)) _ (not-false _ sound) .1))
+    (lookedUp (wordAt image (s .offset)) Flash) refl))))

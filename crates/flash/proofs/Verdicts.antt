@@ -1,0 +1,114 @@
+-- How a command may be judged and done, and where a seek may lead: each refusal of the rules is told by its cases, and each is one that ends the session.
+use Prim.Native.Nat.{ℕ, _%_, _≤_, _<_}
+use mathlib.Core.Bool.{Bool, true, false, not, _&&_}
+use mathlib.Core.List.{List}
+use mathlib.Core.Logic.{_≢_}
+use mathlib.Core.Path.{_≡_, refl}
+use native.Mathlib.Omega.{arith}
+use lib.Dec.{ltb, eqb}
+use borrow.Author.Tests.{ltb-true, leb-true, eqb-true, not-true}
+use Rattle.words.proofs.Choice.{both, of-choice}
+use Rattle.windows.specs.declared.Window.{Window}
+use Rattle.script.specs.Answers.{numberOf, kindOf}
+use Rattle.script.specs.declared.Event.{Event}
+use Rattle.script.specs.declared.Event.the-variants as event
+use Rattle.script.specs.declared.Refusal.{Refusal}
+use Rattle.script.specs.declared.Refusal.the-variants as refusal
+use Rattle.commands.specs.Commands.{multiple, doneIf, loadJudged, fillJudged, fillDone, shapeOf, shapeJudged, settingDone, entryJudged, jumpDone, closeDone, target, soughtFrom}
+use Rattle.commands.proofs.Judging.{EachRefusal, Passes, load-passes, fill-passes, shape-passes, entry-passes}
+use Rattle.commands.specs.declared.Done.{Done}
+use Rattle.commands.specs.declared.Judged.{Judged}
+use Rattle.commands.specs.declared.Judged.the-variants.{Granted, Refused}
+use Rattle.commands.specs.declared.Shape.{Shape}
+use Rattle.commands.specs.declared.Sought.{Sought}
+use Rattle.commands.specs.declared.Sought.the-variants as sought
+use Rattle.flash.specs.Calls.{spares}
+use Rattle.flash.specs.Step.{shortage}
+
+-- a refusal that ends the session
+pub record Ending (q : Refusal) : Type 0 where
+  pub refused : numberOf q ≢ 0
+  pub unspared : spares q ≡ false
+
+pub ends : (q : Refusal) → (ltb 0 (numberOf q) && not (spares q)) ≡ true → Ending q
+ends q e =
+    let parts = both (ltb 0 (numberOf q)) (not (spares q)) e in
+    let low = ltb-true 0 (numberOf q) (parts .0) in
+    record { refused = λ z. omega arith; unspared = not-true (spares q) (parts .1) }
+
+-- a judgement grants a place or refuses with such a number
+pub data Judges : Judged → Type 0 where
+  grants : {place : ℕ} → Judges (Granted place)
+  denies : {q : Refusal} → Ending q → Judges (Refused q)
+
+every-refusal : EachRefusal Ending
+every-refusal =
+    record {
+      type-word = ends refusal.TypeWord refl;
+      unaligned = ends refusal.Unaligned refl;
+      range = ends refusal.Range refl;
+      entry = ends refusal.Entry refl;
+    }
+
+passed-judges : (j : Judged) → Passes Ending j → Judges j
+passed-judges (Granted place) p = grants
+passed-judges (Refused q) p = denies p
+
+module _ (windows : List Window) where
+  pub load-judges : (address size : ℕ) → Judges (loadJudged windows address size)
+  load-judges address size = passed-judges _ (load-passes Ending every-refusal windows address size)
+
+  fill-judges : (address size kind : ℕ) → Judges (fillJudged windows address size kind)
+  fill-judges address size kind = passed-judges _ (fill-passes Ending every-refusal windows address size kind)
+
+  shape-judges : (shape : Shape) (address : ℕ) → Judges (shapeJudged windows shape address)
+  shape-judges shape address = passed-judges _ (shape-passes Ending every-refusal windows shape address)
+
+  entry-judges : (address : ℕ) → Judges (entryJudged windows address)
+  entry-judges address = passed-judges _ (entry-passes Ending every-refusal windows address)
+
+-- a command that was judged is accepted with an event of a kind, or refused with such a number
+pub data Answers (kind : ℕ) (done : Done) : Type 0 where
+  accepts : numberOf (done .refusal) ≡ 0 → kindOf (done .event) ≡ kind → Answers kind done
+  rejects : Ending (done .refusal) → Answers kind done
+
+judged-answers : {j : Judged} (register fed : ℕ) (told : Event) → Judges j → Answers (kindOf told) (doneIf j register told fed)
+judged-answers register fed told grants = accepts refl refl
+judged-answers register fed told (denies e) = rejects e
+
+module _ (windows : List Window) (register : ℕ) where
+  pub fill-answers : (on : Bool) (address size kind pattern : ℕ) → Answers 0 (fillDone windows on register address size kind pattern)
+  unfolding fillDone
+  fill-answers on address size kind pattern = judged-answers _ _ event.Nothing (fill-judges windows address size kind)
+
+  pub setting-answers : (word address delay : ℕ) → Answers 1 (settingDone windows register word address delay)
+  unfolding settingDone
+  setting-answers word address delay = judged-answers _ _ (event.Wait delay) (shape-judges windows (shapeOf word) address)
+
+  pub jump-answers : (address : ℕ) → Answers 2 (jumpDone windows register address)
+  unfolding jumpDone
+  jump-answers address = judged-answers _ _ (event.Call address) (entry-judges windows address)
+
+  pub close-answers : (address : ℕ) → Answers 3 (closeDone windows register address)
+  unfolding closeDone
+  close-answers address = judged-answers _ _ (event.Enter address) (entry-judges windows address)
+
+-- a seek leads back to a multiple of 4 that is at least 4, or is refused
+pub data Leads (request : ℕ) : Sought → Type 0 where
+  leads : {offset : ℕ} → offset % 4 ≡ 0 → 4 ≤ offset → offset < request → Leads request (sought.To offset)
+  astray : {q : Refusal} → Ending q → Leads request (sought.Refused q)
+
+pub seek-leads : (request seek : ℕ) → Leads request (soughtFrom request seek)
+unfolding soughtFrom multiple
+seek-leads request seek =
+    of-choice (Leads request) _
+    (λ e.
+    let parts = both _ (ltb (target request seek) request) e in
+    let low = both (eqb (target request seek % 4) 0) _ (parts .0) in
+    leads (eqb-true _ _ (low .0)) (leb-true _ _ (low .1)) (ltb-true _ _ (parts .1)))
+    (λ e. astray (ends refusal.Seek refl))
+
+-- words that are missing are 5 or 13
+pub shortage-ends : (image : List ℕ) (at : ℕ) → Ending (shortage image at)
+unfolding shortage
+shortage-ends image at = of-choice Ending _ (λ e. ends refusal.Missing refl) (λ e. ends refusal.Cut refl)
