@@ -1,9 +1,8 @@
 /* Runs the proved loader and the plain one on the same cases, and compares all that they give back.
 
    compare COUNT SEED [FIRST] runs COUNT cases of the seed, from case FIRST on. It ends with status 1 at the
-   first difference, or (unless FIRST is given) when a refusal or a command was not met at all. Refusal 13
-   can't be met through these calls: a run lends one unchanged image, and its length was judged at the
-   opening, as 3. In flash mode 14 can't be met either, since a run stops when its session ends. */
+   first difference, or (unless FIRST is given) when a refusal or a command was not met at all. In flash mode
+   14 can't be met, since a run stops when its session ends. */
 #include "ais.h"
 #include "cases.h"
 #include "plain_loader.h"

@@ -1,6 +1,6 @@
 -- The law of a call, by the cases of the rules: the words that the table gives a command are those that it passes, and a command that was judged is accepted
 -- or ends the session.
-use Prim.Native.Nat.{ℕ, _+_, _*_, _/_, _≤_, _<_}
+use Prim.Native.Nat.{ℕ, _+_, _*_, _≤_, _<_}
 use mathlib.Core.Bool.{Bool, true, false, _||_, true≢false}
 use mathlib.Core.List.{List}
 use mathlib.Core.Logic.{_≢_}
@@ -32,7 +32,7 @@ use Rattle.flash.specs.Sessions.{Outcome, changed, unchanged, stopped, a
 use Rattle.flash.specs.Step.{present, argument, after, loadAt, loadJudgedAs, soughtAs, requested, entered, performed, atRow, stepOf}
 use Rattle.flash.specs.declared.Called.{Called}
 use Rattle.flash.specs.declared.Session.{Session}
-use Rattle.flash.proofs.Verdicts.{Ending, ends, Judges, grants, denies, load-judges, Answers, accepts, rejects, fill-answers, setting-answers, jump-answers, close-answers, Leads, leads, astray, seek-leads, shortage-ends}
+use Rattle.flash.proofs.Verdicts.{Ending, ends, Judges, grants, denies, load-judges, Answers, accepts, rejects, fill-answers, setting-answers, jump-answers, close-answers, Leads, leads, astray, seek-leads}
 
 -- words are there up to an offset
 there : (image : List ℕ) (at n : ℕ) → present image at n ≡ true → at + 4 * n ≤ length image
@@ -157,7 +157,7 @@ module _ (s : Session) (image : List ℕ) where
           → Judges j → Answered (loadJudgedAs s m image (argument s image 0) (argument s image 1) j)
       unfolding loadAt
       load-call known two grants =
-          of-choice Answered _ (λ e. stops _ (shortage-ends image _))
+          of-choice Answered _ (λ e. stops refusal.Missing (ends refusal.Missing refl))
           (λ e. goes-on (λ z. omega arith)
           (read known (3 + dataWords command.Load s image) (omega arith) (omega (arith, there image _ _ (not-false _ e)))) (omega arith))
       load-call known two (denies e) = stops _ e
@@ -198,7 +198,7 @@ module _ (s : Session) (image : List ℕ) where
       row-call : (found : Found) → lookedUp (wordAt image (s .offset)) Flash ≡ found → Answered (atRow s m image found)
       row-call Unknown found = stops refusal.Opcode (ends refusal.Opcode refl)
       row-call (Known c arguments) found =
-          of-choice Answered _ (λ e. stops _ (shortage-ends image _))
+          of-choice Answered _ (λ e. stops refusal.Missing (ends refusal.Missing refl))
           (λ e. performed-call c arguments (row-is Flash _ c arguments found) found (there image _ _ (not-false _ e)))
 
 pub every-call : EveryCall
@@ -208,6 +208,6 @@ every-call s m image =
     of-choice Answered _ (λ over. spared s image refusal.Ended refl (λ z. omega arith) (sym over))
     (λ standing. of-choice Answered _ (λ e. spared s image refusal.Memory refl (λ z. omega arith) (sym standing))
     (λ e. of-choice Answered _ (λ e. spared s image refusal.Image refl (λ z. omega arith) (sym standing))
-    (λ sound. of-choice Answered _ (λ e. stops s image standing _ (shortage-ends image _))
+    (λ sound. of-choice Answered _ (λ e. stops s image standing refusal.Missing (ends refusal.Missing refl))
     (λ e. row-call s image standing m (eqb-true _ _ (both (goodLength (length image)) _ (not-false _ sound) .1))
     (lookedUp (wordAt image (s .offset)) Flash) refl))))

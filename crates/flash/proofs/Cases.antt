@@ -1,11 +1,11 @@
 -- What a call comes to, by the facts that its tests ask. Each law takes the tests of a definition one after the other.
-use Prim.Native.Nat.{ℕ, _+_, _*_, _/_, _≤_, _<_}
+use Prim.Native.Nat.{ℕ, _+_, _*_, _/_, _%_, _≤_, _<_}
 use mathlib.Core.Bool.{true, false, not, _&&_}
 use mathlib.Core.List.{List}
 use mathlib.Core.Path.{_≡_, ap, _∙_}
 use lib.Dec.{eqb, leb}
 use lib.ListN.{length}
-use borrow.Author.Tests.{le-leb, lt-leb, eq-eqb, ne-eqb, leb-true}
+use borrow.Author.Tests.{le-leb, lt-leb, eq-eqb, ne-eqb, leb-true, eqb-true}
 use Rattle.words.specs.Bytes.{bytesAt, wordAt}
 use Rattle.words.specs.Choice.{pick}
 use Rattle.words.proofs.Choice.{chosen, passed, both}
@@ -22,7 +22,7 @@ use Rattle.commands.specs.Commands.{multiple, loadJudged, loaded, loadFed, fill
 use Rattle.commands.specs.declared.Judged.{Judged}
 use Rattle.flash.specs.Opening.{goodLength}
 use Rattle.flash.specs.Sessions.{_leaving_, goTo, unchanged, stopped, accepted}
-use Rattle.flash.specs.Step.{present, shortage, argument, after, loadAt, loadJudgedAs, performed, atRow, stepOf}
+use Rattle.flash.specs.Step.{present, argument, after, loadAt, loadJudgedAs, performed, atRow, stepOf}
 use Rattle.flash.specs.declared.Session.{Session}
 
 -- words that are there, and words that are not
@@ -43,10 +43,15 @@ length-small n e = leb-true _ _ (both (multiple n 4 && leb 4 n) (leb n 65536) e 
 pub image-small : (n k : ℕ) → (goodLength n && eqb n k) ≡ true → n ≤ 65536
 image-small n k e = length-small n (both (goodLength n) (eqb n k) e .0)
 
+-- an image has whole words
+pub length-whole : (n : ℕ) → goodLength n ≡ true → n % 4 ≡ 0
+unfolding goodLength multiple
+length-whole n e = eqb-true _ _ (both (eqb (n % 4) 0) (leb 4 n) (both (eqb (n % 4) 0 && leb 4 n) (leb n 65536) e .0) .0)
+
 module _ (s : Session) (m image : List ℕ) where
   -- a load whose data are cut short, and one whose data are there
   pub load-short : (address size place : ℕ) → length image < s .offset + 12 + 4 * ((size + 3) / 4)
-      → loadAt s m image address size place ≡ stopped (shortage image (s .offset + 12)) s leaving m
+      → loadAt s m image address size place ≡ stopped refusal.Missing s leaving m
   unfolding loadAt
   load-short address size place h = chosen _ _ _ (lacking image (s .offset + 12) ((size + 3) / 4) h)
 
@@ -79,7 +84,7 @@ module _ (s : Session) (m image : List ℕ) where
 
   -- a row whose argument words are cut short, and one whose words are there
   module _ {found : Found} {command : Command} {words : ℕ} (known : found ≡ Known command words) where
-    pub row-short : length image < s .offset + 4 + 4 * words → atRow s m image found ≡ stopped (shortage image (s .offset + 4)) s leaving m
+    pub row-short : length image < s .offset + 4 + 4 * words → atRow s m image found ≡ stopped refusal.Missing s leaving m
     row-short h = ap (λ (f : Found). atRow s m image f) known ∙ chosen _ _ _ (lacking image (s .offset + 4) words h)
 
     pub row-whole : s .offset + 4 + 4 * words ≤ length image → atRow s m image found ≡ performed command s m image
@@ -102,7 +107,7 @@ module _ (s : Session) (m image : List ℕ) where
       call-image e = passed _ _ _ running ∙ passed _ _ _ (ap not (eq-eqb _ _ lent)) ∙ chosen _ _ _ (ap not e)
 
       module _ (sound : (goodLength (length image) && eqb (length image) (s .length)) ≡ true) where
-        pub call-short : length image < s .offset + 4 → stepOf s m image ≡ stopped (shortage image (s .offset)) s leaving m
+        pub call-short : length image < s .offset + 4 → stepOf s m image ≡ stopped refusal.Missing s leaving m
         unfolding stepOf
         call-short h =
             passed _ _ _ running ∙ passed _ _ _ (ap not (eq-eqb _ _ lent)) ∙ passed _ _ _ (ap not sound)

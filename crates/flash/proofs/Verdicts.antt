@@ -23,7 +23,6 @@ use Rattle.commands.specs.declared.Shape.{Shape}
 use Rattle.commands.specs.declared.Sought.{Sought}
 use Rattle.commands.specs.declared.Sought.the-variants as sought
 use Rattle.flash.specs.Calls.{spares}
-use Rattle.flash.specs.Step.{shortage}
 
 -- a refusal that ends the session
 pub record Ending (q : Refusal) : Type 0 where
@@ -107,8 +106,3 @@ seek-leads request seek =
     let low = both (eqb (target request seek % 4) 0) _ (parts .0) in
     leads (eqb-true _ _ (low .0)) (leb-true _ _ (low .1)) (ltb-true _ _ (parts .1)))
     (λ e. astray (ends refusal.Seek refl))
-
--- words that are missing are 5 or 13
-pub shortage-ends : (image : List ℕ) (at : ℕ) → Ending (shortage image at)
-unfolding shortage
-shortage-ends image at = of-choice Ending _ (λ e. ends refusal.Missing refl) (λ e. ends refusal.Cut refl)

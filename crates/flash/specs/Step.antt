@@ -1,5 +1,5 @@
 -- One call of a flash session: one command, judged in the order of document 01.
-use Prim.Native.Nat.{ℕ, _+_, _-_, _*_, _/_}
+use Prim.Native.Nat.{ℕ, _+_, _*_, _/_}
 use mathlib.Core.Bool.{Bool, not, _&&_}
 use mathlib.Core.List.{List}
 use lib.Dec.{leb, eqb}
@@ -15,9 +15,8 @@ use Rattle.script.specs.declared.Event.the-variants.{Nothing}
 use Rattle.script.specs.declared.Found.{Found}
 use Rattle.script.specs.declared.Found.the-variants.{Known, Unknown}
 use Rattle.script.specs.declared.Mode.the-variants.{Flash}
-use Rattle.script.specs.declared.Refusal.{Refusal}
 use Rattle.script.specs.declared.Refusal.the-variants as refusal
-use Rattle.commands.specs.Commands.{multiple, loadJudged, loaded, loadFed, fillDone, fillMemory, settingDone, settingMemory, jumpDone, closeDone, soughtFrom}
+use Rattle.commands.specs.Commands.{loadJudged, loaded, loadFed, fillDone, fillMemory, settingDone, settingMemory, jumpDone, closeDone, soughtFrom}
 use Rattle.commands.specs.declared.Done.{Done}
 use Rattle.commands.specs.declared.Judged.{Judged}
 use Rattle.commands.specs.declared.Judged.the-variants.{Granted, Refused}
@@ -32,10 +31,6 @@ use Rattle.flash.specs.declared.Session.{Session}
 unfoldable pub present : List ℕ → ℕ → ℕ → Bool
 present image at n = leb (at + 4 * n) (length image)
 
--- it does not: 5 where it ends between two words, 13 where it ends inside one
-unfoldable pub shortage : List ℕ → ℕ → Refusal
-shortage image at = pick (multiple (length image - at) 4) refusal.Missing refusal.Cut
-
 -- argument word i of the command at the session's offset
 unfoldable pub argument : Session → List ℕ → ℕ → ℕ
 argument s image i = wordAt image (s .offset + 4 + 4 * i)
@@ -47,10 +42,10 @@ after s done n =
     (accepted s (done .event) (goTo s (done .register) (s .offset + 4 * n)))
     (stopped (done .refusal) s)
 
--- a load granted at a place: 5 or 13 for its data, else they are copied and fed
+-- a load granted at a place: 5 for its data, else they are copied and fed
 unfoldable pub loadAt : Session → List ℕ → List ℕ → ℕ → ℕ → ℕ → Outcome
 loadAt s m image address size place =
-    pick (not (present image (s .offset + 12) ((size + 3) / 4))) (stopped (shortage image (s .offset + 12)) s leaving m)
+    pick (not (present image (s .offset + 12) ((size + 3) / 4))) (stopped refusal.Missing s leaving m)
     (accepted s Nothing
     (goTo s (pick (s .on) (loadFed (s .register) address (bytesAt image (s .offset + 12) size)) (s .register))
     (s .offset + 12 + 4 * ((size + 3) / 4)))
@@ -97,18 +92,18 @@ performed command.JumpAndClose s m image =
 performed command.Ping s m image = stopped refusal.Opcode s leaving m
 performed command.SequentialRead s m image = accepted s Nothing (goTo s (s .register) (s .offset + 4)) leaving m
 
--- 6, then 13 or 5 for the arguments
+-- 6, then 5 for the arguments
 abbrev pub atRow : Session → List ℕ → List ℕ → Found → Outcome
 atRow s m image Unknown = stopped refusal.Opcode s leaving m
 atRow s m image (Known command words) =
-    pick (not (present image (s .offset + 4) words)) (stopped (shortage image (s .offset + 4)) s leaving m)
+    pick (not (present image (s .offset + 4) words)) (stopped refusal.Missing s leaving m)
     (performed command s m image)
 
--- a call: 14, 2, 3, then 13 or 5 for the opcode
+-- a call: 14, 2, 3, then 5 for the opcode
 unfoldable pub stepOf : Session → List ℕ → List ℕ → Outcome
 stepOf s m image =
     pick (s .ended) (unchanged refusal.Ended s leaving m)
     (pick (not (eqb (length m) (sumOf (s .windows)))) (unchanged refusal.Memory s leaving m)
     (pick (not (goodLength (length image) && eqb (length image) (s .length))) (unchanged refusal.Image s leaving m)
-    (pick (not (present image (s .offset) 1)) (stopped (shortage image (s .offset)) s leaving m)
+    (pick (not (present image (s .offset) 1)) (stopped refusal.Missing s leaving m)
     (atRow s m image (lookedUp (wordAt image (s .offset)) Flash)))))

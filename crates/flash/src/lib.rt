@@ -7,7 +7,7 @@ ghost use lib.ListN.{length};
 ghost use Rattle.commands.specs.Commands.{jumpDone, closeDone, soughtFrom};
 ghost use Rattle.flash.specs.Opening.{goodLength, begun, refusedBy, openedBy};
 ghost use Rattle.flash.specs.Sessions.{goTo, switchOn, switchOff, unchanged, stopped, accepted};
-ghost use Rattle.flash.specs.Step.{shortage, argument, after, loadAt, soughtAs, requested, entered, performed, atRow, stepOf};
+ghost use Rattle.flash.specs.Step.{argument, after, loadAt, soughtAs, requested, entered, performed, atRow, stepOf};
 use commands::Done;
 use commands::Judged;
 use commands::Sought;
@@ -83,7 +83,7 @@ impl Session {
         }
         let at = self.offset as usize;
         if image.len() < at + 4 {
-            return halt(shortfall(image, at), self);
+            return halt(Refusal::Missing, self);
         }
         let found = script::look_up(words::word_at(image, at), Mode::Flash);
         at_row(found, self, memory, image)
@@ -206,19 +206,6 @@ fn moved(session: Session, register: u32, offset: u32) -> Session
     next
 }
 
-// Why words are missing from an offset on.
-fn shortfall(image: &[u8], at: usize) -> Refusal
-    ensures { λ r. ⌜ r ≡ shortage (now (image .entry)) at ⌝ }
-{
-    if image.len() <= at {
-        return Refusal::Missing;
-    }
-    if (image.len() - at) % 4 == 0 {
-        return Refusal::Missing;
-    }
-    Refusal::Cut
-}
-
 // An argument word of the command at the session's offset.
 fn argument_word(session: Session, image: &[u8], i: u32) -> u32
     ensures { λ r. ⌜ r ≡ argument session (now (image .entry)) i ⌝ }
@@ -256,7 +243,7 @@ fn load_at(
     let from = (session.offset as usize) + 12;
     let end = from + 4 * (((size as usize) + 3) / 4);
     if image.len() < end {
-        return halt(shortfall(image, from), session);
+        return halt(Refusal::Missing, session);
     }
     let to = from + (size as usize);
     let register = commands::load(
@@ -475,7 +462,7 @@ fn at_row(found: Found, session: Session, memory: &mut [u8], image: &[u8]) -> Ca
         Found::Known(command, words) => {
             let from = (session.offset as usize) + 4;
             if image.len() < from + 4 * (words as usize) {
-                return halt(shortfall(image, from), session);
+                return halt(Refusal::Missing, session);
             }
             perform(command, session, memory, image)
         }

@@ -20,7 +20,6 @@ numberOf refusal.Unaligned = 9
 numberOf refusal.Entry = 10
 numberOf refusal.Checksum = 11
 numberOf refusal.Seek = 12
-numberOf refusal.Cut = 13
 numberOf refusal.Ended = 14
 numberOf refusal.Call = 19
 

@@ -19,7 +19,6 @@ pub enum Refusal {
     Entry,
     Checksum,
     Seek,
-    Cut,
     Ended,
     Call,
 }
@@ -43,7 +42,6 @@ impl Refusal {
             Refusal::Entry => 10,
             Refusal::Checksum => 11,
             Refusal::Seek => 12,
-            Refusal::Cut => 13,
             Refusal::Ended => 14,
             Refusal::Call => 19,
         }

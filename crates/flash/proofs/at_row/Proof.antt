@@ -33,17 +33,14 @@ mul-if1 c = search needs
 add-if1 : tie.Need-add-if1
 add-if1 c = search needs
 
-shortfall-requires : tie.Need-shortfall-requires
-shortfall-requires c κs = search needs
-
 halt-requires-2 : tie.Need-halt-requires-2
 halt-requires-2 c κs = search needs
 
 returns : tie.Need-returns
 returns c =
-    let a = c .before .before .before .before .before .before .before .before .before .args in
-    let short = row-short (a .session) (now (a .memory)) (now (a .image)) (c .before .before .before .before .before .found .given .1) (c .before .before .if1 .taken) in
-    (rw (c .halt2 .ensures, c .before .shortfall .ensures) (sym (ap (λ (o : Outcome). o .answer) short)), sym (ap (λ (o : Outcome). o .memory) short))
+    let a = c .before .before .before .before .before .before .before .before .args in
+    let short = row-short (a .session) (now (a .memory)) (now (a .image)) (c .before .before .before .before .found .given .1) (c .before .if1 .taken) in
+    (c .halt2 .ensures ∙ sym (ap (λ (o : Outcome). o .answer) short), sym (ap (λ (o : Outcome). o .memory) short))
 
 perform-requires : tie.Need-perform-requires
 perform-requires c κs = search needs
@@ -75,7 +72,6 @@ at-row-spec =
     cast-if1
     mul-if1
     add-if1
-    shortfall-requires
     halt-requires-2
     returns
     perform-requires

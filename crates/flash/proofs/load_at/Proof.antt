@@ -32,17 +32,14 @@ mul-end c = search needs
 add-end-2 : tie.Need-add-end-2
 add-end-2 c = search needs
 
-shortfall-requires : tie.Need-shortfall-requires
-shortfall-requires c κs = search needs
-
 halt-requires : tie.Need-halt-requires
 halt-requires c κs = search needs
 
 returns : tie.Need-returns
 returns c =
-    let a = c .before .before .before .before .before .before .args in
-    let short = load-short (a .session) (now (a .memory)) (now (a .image)) (a .address) (a .size) (a .place) (c .before .before .if1 .taken) in
-    (rw (c .halt .ensures, c .before .shortfall .ensures) (sym (ap (λ (o : Outcome). o .answer) short)), sym (ap (λ (o : Outcome). o .memory) short))
+    let a = c .before .before .before .before .before .args in
+    let short = load-short (a .session) (now (a .memory)) (now (a .image)) (a .address) (a .size) (a .place) (c .before .if1 .taken) in
+    (c .halt .ensures ∙ sym (ap (λ (o : Outcome). o .answer) short), sym (ap (λ (o : Outcome). o .memory) short))
 
 add-to : tie.Need-add-to
 add-to c = search needs
@@ -89,7 +86,6 @@ load-at-spec =
     add-end
     mul-end
     add-end-2
-    shortfall-requires
     halt-requires
     returns
     add-to

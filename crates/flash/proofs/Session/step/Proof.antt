@@ -64,19 +64,16 @@ cast-at c = search needs
 add-if4 : tie.Need-add-if4
 add-if4 c = search needs
 
-shortfall-requires : tie.Need-shortfall-requires
-shortfall-requires c κs = search needs
-
 halt-requires : tie.Need-halt-requires
 halt-requires c κs = search needs
 
 returns-4 : tie.Need-returns-4
 returns-4 c =
-    let a = c .before .before .before .before .before .before .before .before .before .before .before .before .before .args in
-    let lent = c .before .before .before .before .before .before .before .if2 .left ∙ c .before .before .before .before .before .before .before .before .sum .ensures in
-    let sound = sym (c .before .before .before .before .before .is-image .ensures) ∙ not-false _ (c .before .before .before .before .if3 .left) in
-    let case = call-short (a .self) (now (a .memory)) (now (a .image)) (c .before .before .before .before .before .before .before .before .before .before .if1 .left) lent sound (c .before .before .if4 .taken) in
-    (told case (rw (c .before .shortfall .ensures) at (c .halt .ensures)), left-in case refl)
+    let a = c .before .before .before .before .before .before .before .before .before .before .before .before .args in
+    let lent = c .before .before .before .before .before .before .if2 .left ∙ c .before .before .before .before .before .before .before .sum .ensures in
+    let sound = sym (c .before .before .before .before .is-image .ensures) ∙ not-false _ (c .before .before .before .if3 .left) in
+    let case = call-short (a .self) (now (a .memory)) (now (a .image)) (c .before .before .before .before .before .before .before .before .before .if1 .left) lent sound (c .before .if4 .taken) in
+    (told case (c .halt .ensures), left-in case refl)
 
 word-at-requires : tie.Need-word-at-requires
 word-at-requires c κs = search needs
@@ -117,7 +114,6 @@ step-spec =
     returns-3
     cast-at
     add-if4
-    shortfall-requires
     halt-requires
     returns-4
     word-at-requires
