@@ -279,19 +279,19 @@ void write_good_setting(struct writer *writer)
         write_setting(writer, type, address, data, random_below(&writer->random, 1000));
 }
 
-void write_good_jump(struct writer *writer, uint32_t opcode)
+void write_good_jump_and_close(struct writer *writer)
 {
     uint32_t address, size;
     const struct window *window;
 
     if (choose_range(writer, ENTRY_RIGHT, 4, 4, &address, &size)) {
-        write_jump(writer, opcode, address);
+        write_jump_and_close(writer, address);
         return;
     }
     /* A window of less than four bytes may still hold an entry address. */
     window = &writer->map->windows[0];
     if (writer->map->count > 0)
-        write_jump(writer, opcode, (window->first + 3) & ~(uint32_t)3);
+        write_jump_and_close(writer, (window->first + 3) & ~(uint32_t)3);
 }
 
 /* A seek from a Request at `offset`: to a command before it, to some word before it, or to a wrong place. */
@@ -355,7 +355,7 @@ static void write_good_small_command(struct writer *writer)
 {
     bool is_flash = writer->is_flash;
 
-    switch (random_below(&writer->random, 11)) {
+    switch (random_below(&writer->random, 10)) {
     case 0:
     case 1:
         write_switch(writer, OPCODE_ENABLE);
@@ -368,10 +368,7 @@ static void write_good_small_command(struct writer *writer)
         write_switch(writer, is_flash ? OPCODE_SEQUENTIAL_READ_ENABLE : OPCODE_START_OVER);
         break;
     case 5:
-        write_good_jump(writer, OPCODE_JUMP);
-        break;
     case 6:
-    case 7:
         if (!is_flash) {
             write_some_ping(writer);
             break;
@@ -531,16 +528,26 @@ static void write_flawed_setting(struct writer *writer)
     write_setting(writer, type, address, data, random_below(random, 1000));
 }
 
-static void write_flawed_jump(struct writer *writer)
+static void write_flawed_jump_and_close(struct writer *writer)
 {
     struct random_source *random = &writer->random;
     const struct window *window = choose_window(writer);
     uint32_t end = window->first + window->length;
     const uint32_t addresses[] = {end,           end & ~3u,         (end - 1) & ~3u,   (end - 4) | 1,
                                   window->first, window->first + 2, window->first - 4, random_word(random) & ~3u};
-    uint32_t opcode = chance(random, 50) ? OPCODE_JUMP : OPCODE_JUMP_AND_CLOSE;
 
-    write_jump(writer, opcode, PICK(random, addresses));
+    write_jump_and_close(writer, PICK(random, addresses));
+}
+
+/* The retired Jump: as old scripts have it, with an address that no longer counts, or with nothing after it. */
+static void write_retired(struct writer *writer)
+{
+    struct random_source *random = &writer->random;
+    const struct window *window = choose_window(writer);
+
+    write_word(writer, OPCODE_JUMP);
+    if (chance(random, 70))
+        write_word(writer, chance(random, 70) ? (window->first + 3) & ~(uint32_t)3 : tricky_word(random));
 }
 
 /* An opcode that is unknown, or belongs to the other mode. */
@@ -561,7 +568,7 @@ static void write_flawed_opcode(struct writer *writer)
 
 void write_flawed_command(struct writer *writer)
 {
-    switch (random_below(&writer->random, 6)) {
+    switch (random_below(&writer->random, 7)) {
     case 0:
         write_flawed_load(writer);
         break;
@@ -573,7 +580,10 @@ void write_flawed_command(struct writer *writer)
         write_flawed_setting(writer);
         break;
     case 4:
-        write_flawed_jump(writer);
+        write_flawed_jump_and_close(writer);
+        break;
+    case 5:
+        write_retired(writer);
         break;
     default:
         write_flawed_opcode(writer);
@@ -698,7 +708,7 @@ static void write_sent_script(struct writer *writer)
     else
         write_commands(writer);
     if (chance(random, 55))
-        write_good_jump(writer, OPCODE_JUMP_AND_CLOSE);
+        write_good_jump_and_close(writer);
     if (chance(random, 12))
         write_word(writer, tricky_word(random));
     if (chance(random, 20))
@@ -759,7 +769,7 @@ static void write_image(struct writer *writer)
     write_image_beginning(writer);
     write_commands(writer);
     if (chance(random, 80))
-        write_good_jump(writer, OPCODE_JUMP_AND_CLOSE);
+        write_good_jump_and_close(writer);
     if (chance(random, 12))
         write_word(writer, tricky_word(random));
     if (chance(random, 20))
@@ -787,7 +797,7 @@ static void write_large_image(struct writer *writer)
         write_some_flash_request(writer);
     while (writer->length + 8 < length)
         write_switch(writer, OPCODE_SEQUENTIAL_READ_ENABLE);
-    write_jump(writer, OPCODE_JUMP_AND_CLOSE, (window->first + 3) & ~(uint32_t)3);
+    write_jump_and_close(writer, (window->first + 3) & ~(uint32_t)3);
 }
 
 /* ---- Cases ---- */

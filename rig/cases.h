@@ -24,7 +24,7 @@ void break_map(struct random_source *random, struct map *map);
 void write_good_load(struct writer *writer);
 void write_good_fill(struct writer *writer);
 void write_good_setting(struct writer *writer);
-void write_good_jump(struct writer *writer, uint32_t opcode);
+void write_good_jump_and_close(struct writer *writer);
 void write_good_command(struct writer *writer);
 void write_flawed_command(struct writer *writer);
 void damage_script(struct writer *writer);

@@ -19,6 +19,7 @@ enum refusal {
     CHECKSUM_DIFFERS = 11,
     SEEK_WRONG = 12,
     SESSION_ENDED = 14,
+    OPCODE_RETIRED = 15,
     CALL_WRONG = 19
 };
 
@@ -54,7 +55,6 @@ enum command {
     REQUEST,
     ENABLE,
     DISABLE,
-    JUMP,
     JUMP_AND_CLOSE = PLAIN_JUMP_AND_CLOSE,
     BOOT_TABLE,
     START_OVER,
@@ -76,7 +76,6 @@ static const struct command_row COMMANDS[PLAIN_COMMANDS] = {
     [REQUEST] = {0x58535902, {0, 2}, "Request"},
     [ENABLE] = {0x58535903, {0, 0}, "Enable"},
     [DISABLE] = {0x58535904, {0, 0}, "Disable"},
-    [JUMP] = {0x58535905, {1, 1}, "Jump"},
     [JUMP_AND_CLOSE] = {0x58535906, {1, 1}, "Jump & Close"},
     [BOOT_TABLE] = {0x58535907, {4, 4}, "Boot Table"},
     [START_OVER] = {0x58535908, {0, NOT_ALLOWED}, "Start-Over"},
@@ -84,6 +83,9 @@ static const struct command_row COMMANDS[PLAIN_COMMANDS] = {
     [PING] = {0x5853590B, {1, NOT_ALLOWED}, "Ping"},
     [SEQUENTIAL_READ_ENABLE] = {0x58535963, {NOT_ALLOWED, 0}, "Sequential Read Enable"},
 };
+
+/* Jump, which no mode takes any more. */
+static const uint32_t RETIRED = 0x58535905;
 
 uint64_t plain_accepted[PLAIN_MODES][PLAIN_COMMANDS];
 
@@ -97,16 +99,18 @@ int plain_command_allowed(unsigned mode, unsigned kind)
     return COMMANDS[kind].argument_words[mode] != NOT_ALLOWED;
 }
 
-/* Finds the command of an opcode in a mode; false where there is none. */
-static bool find_command(uint32_t opcode, unsigned mode, enum command *found)
+/* Finds the command of an opcode in a mode: refused where it is retired, or where there is none. */
+static enum refusal find_command(uint32_t opcode, unsigned mode, enum command *found)
 {
+    if (opcode == RETIRED)
+        return OPCODE_RETIRED;
     for (unsigned kind = 0; kind < PLAIN_COMMANDS; kind++) {
         if (COMMANDS[kind].opcode == opcode && plain_command_allowed(mode, kind)) {
             *found = (enum command)kind;
-            return true;
+            return ACCEPTED;
         }
     }
-    return false;
+    return OPCODE_WRONG;
 }
 
 /* ---- Map ---- */
@@ -264,22 +268,14 @@ static enum refusal boot_table(struct loader *loader, const uint32_t *arguments)
     return ACCEPTED;
 }
 
-static enum refusal jump(struct loader *loader, uint32_t address)
+static enum refusal jump_and_close(struct loader *loader, uint32_t address)
 {
     size_t place;
 
     if (address % 4 != 0 || !find_place(&loader->map, ENTRY_RIGHT, address, 0, &place))
         return ENTRY_WRONG;
+    loader->ended = true;
     return ACCEPTED;
-}
-
-static enum refusal jump_and_close(struct loader *loader, uint32_t address)
-{
-    enum refusal refusal = jump(loader, address);
-
-    if (refusal == ACCEPTED)
-        loader->ended = true;
-    return refusal;
 }
 
 /* ---- Flash mode ---- */
@@ -345,8 +341,6 @@ static enum refusal flash_simple(struct loader *loader, enum command command, co
         return fill(loader, arguments);
     case BOOT_TABLE:
         return boot_table(loader, arguments);
-    case JUMP:
-        return jump(loader, arguments[0]);
     case JUMP_AND_CLOSE:
         return jump_and_close(loader, arguments[0]);
     case ENABLE:
@@ -371,8 +365,9 @@ static enum refusal flash_command(struct flash_run *run)
 
     if (after > run->length)
         return IMAGE_TOO_SHORT;
-    if (!find_command(read_word(run->image + run->offset), PLAIN_FLASH, &command))
-        return OPCODE_WRONG;
+    refusal = find_command(read_word(run->image + run->offset), PLAIN_FLASH, &command);
+    if (refusal != ACCEPTED)
+        return refusal;
     argument_count = (unsigned)COMMANDS[command].argument_words[PLAIN_FLASH];
     if (run->length - after < argument_count * WORD_BYTES)
         return IMAGE_TOO_SHORT;
@@ -511,8 +506,6 @@ static enum refusal sent_perform(struct sent_session *session, struct reply *rep
         return fill(&session->loader, session->arguments);
     case BOOT_TABLE:
         return boot_table(&session->loader, session->arguments);
-    case JUMP:
-        return jump(&session->loader, session->arguments[0]);
     case JUMP_AND_CLOSE:
         return jump_and_close(&session->loader, session->arguments[0]);
     case ENABLE:
@@ -551,8 +544,10 @@ static enum refusal sent_perform_when_complete(struct sent_session *session, str
 
 static enum refusal sent_opcode(struct sent_session *session, uint32_t opcode, struct reply *reply)
 {
-    if (!find_command(opcode, PLAIN_SENT, &session->command))
-        return OPCODE_WRONG;
+    enum refusal refusal = find_command(opcode, PLAIN_SENT, &session->command);
+
+    if (refusal != ACCEPTED)
+        return refusal;
     session->acknowledged = true;
     session->argument_count = 0;
     reply_word(reply, (opcode & 0x00FFFFFF) | (uint32_t)START_ANSWER << 24);

@@ -6,7 +6,7 @@
 #include <stdint.h>
 
 enum { PLAIN_SENT, PLAIN_FLASH, PLAIN_MODES };
-enum { PLAIN_JUMP_AND_CLOSE = 5, PLAIN_COMMANDS = 11 };
+enum { PLAIN_JUMP_AND_CLOSE = 4, PLAIN_COMMANDS = 10 };
 
 /* How many commands of each kind were accepted so far in each mode, and what the kinds are called. */
 extern uint64_t plain_accepted[PLAIN_MODES][PLAIN_COMMANDS];

@@ -332,9 +332,8 @@ static void write_prefix_command(struct writer *writer)
 {
     static const uint32_t switches[] = {OPCODE_ENABLE, OPCODE_ENABLE, OPCODE_DISABLE, OPCODE_START_OVER};
     struct commands one = {.count = 0};
-    uint32_t address, size;
 
-    switch (random_below(&writer->random, 10)) {
+    switch (random_below(&writer->random, 9)) {
     case 0:
         write_switch(writer, PICK(&writer->random, switches));
         break;
@@ -343,10 +342,6 @@ static void write_prefix_command(struct writer *writer)
         break;
     case 2:
         write_ping(writer, random_below(&writer->random, 4));
-        break;
-    case 3:
-        if (choose_range(writer, ENTRY_RIGHT, 4, 4, &address, &size))
-            write_jump(writer, OPCODE_JUMP, address);
         break;
     default:
         add_some_command(&one, writer);
@@ -424,7 +419,7 @@ static void write_continuation(struct writer *writer)
     for (unsigned count = chance(random, 10) ? random_below(random, 20) : 0; count > 0; count--)
         write_byte(writer, (uint8_t)random_word(random));
     if (chance(random, 20))
-        write_good_jump(writer, OPCODE_JUMP_AND_CLOSE);
+        write_good_jump_and_close(writer);
     for (unsigned count = chance(random, 40) ? 1 + random_below(random, 3) : 0; count > 0; count--)
         damage_script(writer);
 }

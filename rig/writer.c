@@ -204,9 +204,9 @@ void write_switch(struct writer *writer, uint32_t opcode)
         clear_checksum(writer);
 }
 
-void write_jump(struct writer *writer, uint32_t opcode, uint32_t address)
+void write_jump_and_close(struct writer *writer, uint32_t address)
 {
-    write_word(writer, opcode);
+    write_word(writer, OPCODE_JUMP_AND_CLOSE);
     write_word(writer, address);
 }
 

@@ -50,7 +50,7 @@ enum {
     OPCODE_REQUEST = 0x58535902,
     OPCODE_ENABLE = 0x58535903,
     OPCODE_DISABLE = 0x58535904,
-    OPCODE_JUMP = 0x58535905,
+    OPCODE_JUMP = 0x58535905, /* retired */
     OPCODE_JUMP_AND_CLOSE = 0x58535906,
     OPCODE_BOOT_TABLE = 0x58535907,
     OPCODE_START_OVER = 0x58535908,
@@ -95,7 +95,7 @@ void write_load_data(struct writer *writer, uint32_t size);
 void write_fill(struct writer *writer, uint32_t address, uint32_t size, uint32_t type, uint32_t pattern);
 void write_setting(struct writer *writer, uint32_t type, uint32_t address, uint32_t data, uint32_t delay);
 void write_switch(struct writer *writer, uint32_t opcode); /* Enable, Disable, Start-Over, Sequential Read Enable */
-void write_jump(struct writer *writer, uint32_t opcode, uint32_t address);
+void write_jump_and_close(struct writer *writer, uint32_t address);
 void write_sent_request(struct writer *writer);
 void write_flash_request(struct writer *writer, uint32_t expected, uint32_t seek);
 void write_ping(struct writer *writer, uint32_t count);

@@ -179,3 +179,16 @@ pub fn covered_load() {
     covered_case(b"flip", 2, Flip::Bit(24, 2, 0));
     covered_case(b"flip-healed", 2, Flip::Bit(24, 2, 1));
 }
+
+fn old_case(name: &[u8], image: &mut [u8]) {
+    images::put_words(image, &images::OLD);
+    runs::run(name, b"clean", at_window(0xEE, 0, Flip::None), image);
+}
+
+// An old script, with a load and then the retired Jump; and the same with nothing after Jump's opcode.
+pub fn retired() {
+    let mut whole = [0u8; 40];
+    old_case(b"load-then-jump", &mut whole);
+    let mut cut = [0u8; 28];
+    old_case(b"load-then-jump-cut", &mut cut);
+}

@@ -9,7 +9,9 @@ fn main() {
     cases::totals();
     cases::both_sections();
     cases::covered_load();
+    cases::retired();
     sessions::load();
     sessions::ping();
+    sessions::retired();
     sessions::table();
 }

@@ -120,6 +120,11 @@ pub fn ping() {
     run(b"ping", &PING);
 }
 
+// An old script up to the retired Jump.
+pub fn retired() {
+    run(b"load-then-jump", &images::OLD[1..7]);
+}
+
 // Words up to a Request, whose register the host compares.
 fn send_section(begun: Answer, memory: &mut [u8], listed: &[u32], expected: u32) -> Answer {
     let asked = send_words(begun, memory, listed);

@@ -14,7 +14,7 @@ use Rattle.script.specs.Opcodes.{lookedUp}
 use Rattle.script.specs.declared.Command.{Command}
 use Rattle.script.specs.declared.Command.the-variants as command
 use Rattle.script.specs.declared.Found.{Found}
-use Rattle.script.specs.declared.Found.the-variants.{Known, Unknown}
+use Rattle.script.specs.declared.Found.the-variants.{Known, Retired, Unknown}
 use Rattle.script.specs.declared.Mode.the-variants.{Sent}
 use Rattle.script.specs.declared.Refusal.{Refusal}
 use Rattle.commands.specs.Commands.{loadJudged}
@@ -94,7 +94,6 @@ module _ (k : Core) where
   performed-spoken m kept word command.Disable = nothing
   performed-spoken m kept word command.Request = one _ refl
   performed-spoken m kept word command.StartOver = nothing
-  performed-spoken m kept word command.Jump = after-spoken _
   performed-spoken m kept word command.JumpAndClose = after-spoken _
   performed-spoken m kept word command.Ping = one _ refl
   performed-spoken m kept word command.SequentialRead = nothing
@@ -107,6 +106,7 @@ module _ (k : Core) where
 module _ (k : Core) where
   opcode-spoken : (m : List ℕ) (opcode : ℕ) (found : Found) → Spoken (atOpcode k m opcode found .answer)
   opcode-spoken m opcode Unknown = nothing
+  opcode-spoken m opcode Retired = nothing
   opcode-spoken m opcode (Known c words) = acknowledged-spoken opcode _ (toward-spoken (begun k) m noneKept 0 words c)
 
   phase-spoken : (m : List ℕ) (word : ℕ) (p : Phase) → Spoken (inPhase p k m word .answer)

@@ -1,4 +1,4 @@
--- What the check program reports of an image (01, "Marked examples"): one window, memory of zeros, retry limit 0, waits and calls skipped.
+-- What the check program reports of an image (01, "Marked examples"): one window, memory of zeros, retry limit 0, waits skipped.
 use Prim.Native.Nat.{ℕ}
 use mathlib.Core.List.{List, _∷_}
 use lib.Dec.{eqb}

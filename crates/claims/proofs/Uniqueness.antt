@@ -27,7 +27,6 @@ use Rattle.commands.proofs.judge_load.Reads as judge_load
 use Rattle.commands.proofs.load.Reads as load
 use Rattle.commands.proofs.fill.Reads as fill
 use Rattle.commands.proofs.boot_table.Reads as boot_table
-use Rattle.commands.proofs.jump.Reads as jump
 use Rattle.commands.proofs.jump_and_close.Reads as jump_and_close
 use Rattle.commands.proofs.seek.Reads as seek
 use Rattle.flash.proofs.Session.«open».Reads as flash-opening
@@ -141,9 +140,6 @@ fill-unique κs a r s e f = both-same
 
 pub boot-table-unique : OneResultAndMemory boot_table.Post (λ κs e. now (e .1 .0))
 boot-table-unique κs a r s e f = both-same
-
-pub jump-unique : OneResult jump.Post
-jump-unique κs a r s e f = same
 
 pub jump-and-close-unique : OneResult jump_and_close.Post
 jump-and-close-unique κs a r s e f = same

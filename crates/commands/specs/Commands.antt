@@ -162,10 +162,6 @@ unfoldable pub entryJudged : List Window → ℕ → Judged
 entryJudged windows address =
     pick (not (multiple address 4)) (Refused refusal.Entry) (placed refusal.Entry (placeOf windows right.Entry address 0))
 
--- Jump: event call
-unfoldable pub jumpDone : List Window → ℕ → ℕ → Done
-jumpDone windows register address = doneIf (entryJudged windows address) register (event.Call address) register
-
 -- Jump & Close: event enter
 unfoldable pub closeDone : List Window → ℕ → ℕ → Done
 closeDone windows register address = doneIf (entryJudged windows address) register (event.Enter address) register

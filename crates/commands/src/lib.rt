@@ -29,7 +29,6 @@ ghost use Rattle.commands.specs.Commands.{
   settingDone,
   settingMemory,
   entryJudged,
-  jumpDone,
   closeDone,
   soughtFrom,
 };
@@ -385,18 +384,6 @@ fn judge_entry(windows: [Window; 8], address: u32) -> Judged
         Place::At(at) => Judged::Granted(at),
         Place::Nowhere => Judged::Refused(Refusal::Entry),
     }
-}
-
-// Jump.
-pub fn jump(windows: [Window; 8], register: u32, address: u32) -> Done
-    ensures { λ r. ⌜ r ≡ jumpDone windows register address ⌝ }
-{
-    answer(
-        judge_entry(windows, address),
-        register,
-        Event::Call(address),
-        register,
-    )
 }
 
 // Jump & Close.

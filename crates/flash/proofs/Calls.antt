@@ -18,7 +18,7 @@ use Rattle.script.specs.declared.Command.{Command}
 use Rattle.script.specs.declared.Command.the-variants as command
 use Rattle.script.specs.declared.Event.{Event}
 use Rattle.script.specs.declared.Found.{Found}
-use Rattle.script.specs.declared.Found.the-variants.{Known, Unknown}
+use Rattle.script.specs.declared.Found.the-variants.{Known, Retired, Unknown}
 use Rattle.script.specs.declared.Mode.the-variants.{Flash}
 use Rattle.script.specs.declared.Refusal.{Refusal}
 use Rattle.script.specs.declared.Refusal.the-variants as refusal
@@ -32,7 +32,7 @@ use Rattle.flash.specs.Sessions.{Outcome, changed, unchanged, stopped, a
 use Rattle.flash.specs.Step.{present, argument, after, loadAt, loadJudgedAs, soughtAs, requested, entered, performed, atRow, stepOf}
 use Rattle.flash.specs.declared.Called.{Called}
 use Rattle.flash.specs.declared.Session.{Session}
-use Rattle.flash.proofs.Verdicts.{Ending, ends, Judges, grants, denies, load-judges, Answers, accepts, rejects, fill-answers, setting-answers, jump-answers, close-answers, Leads, leads, astray, seek-leads}
+use Rattle.flash.proofs.Verdicts.{Ending, ends, Judges, grants, denies, load-judges, Answers, accepts, rejects, fill-answers, setting-answers, close-answers, Leads, leads, astray, seek-leads}
 
 -- words are there up to an offset
 there : (image : List ℕ) (at n : ℕ) → present image at n ≡ true → at + 4 * n ≤ length image
@@ -184,9 +184,6 @@ module _ (s : Session) (image : List ℕ) where
           let two = eqb-true n 2 row in
           request-call (read known 3 (omega arith) (omega arith)) _ _ refl
       performed-call command.StartOver n row known h = absurd (true≢false (sym row))
-      performed-call command.Jump n row known h =
-          let one = eqb-true n 1 row in
-          after-call 2 (λ z. omega arith) (jump-answers _ _ _) (read known 2 (omega arith) (omega arith))
       performed-call command.JumpAndClose n row known h =
           let one = eqb-true n 1 row in
           entered-call 2 (close-answers _ _ _) (read known 2 (omega arith) (omega arith))
@@ -197,6 +194,7 @@ module _ (s : Session) (image : List ℕ) where
 
       row-call : (found : Found) → lookedUp (wordAt image (s .offset)) Flash ≡ found → Answered (atRow s m image found)
       row-call Unknown found = stops refusal.Opcode (ends refusal.Opcode refl)
+      row-call Retired found = stops refusal.Retired (ends refusal.Retired refl)
       row-call (Known c arguments) found =
           of-choice Answered _ (λ e. stops refusal.Missing (ends refusal.Missing refl))
           (λ e. performed-call c arguments (row-is Flash _ c arguments found) found (there image _ _ (not-false _ e)))

@@ -14,7 +14,7 @@ use Rattle.script.specs.declared.Event.{Event}
 use Rattle.script.specs.declared.Event.the-variants as event
 use Rattle.script.specs.declared.Refusal.{Refusal}
 use Rattle.script.specs.declared.Refusal.the-variants as refusal
-use Rattle.commands.specs.Commands.{multiple, doneIf, loadJudged, fillJudged, fillDone, shapeOf, shapeJudged, settingDone, entryJudged, jumpDone, closeDone, target, soughtFrom}
+use Rattle.commands.specs.Commands.{multiple, doneIf, loadJudged, fillJudged, fillDone, shapeOf, shapeJudged, settingDone, entryJudged, closeDone, target, soughtFrom}
 use Rattle.commands.proofs.Judging.{EachRefusal, Passes, load-passes, fill-passes, shape-passes, entry-passes}
 use Rattle.commands.specs.declared.Done.{Done}
 use Rattle.commands.specs.declared.Judged.{Judged}
@@ -83,10 +83,6 @@ module _ (windows : List Window) (register : ℕ) where
   pub setting-answers : (word address delay : ℕ) → Answers 1 (settingDone windows register word address delay)
   unfolding settingDone
   setting-answers word address delay = judged-answers _ _ (event.Wait delay) (shape-judges windows (shapeOf word) address)
-
-  pub jump-answers : (address : ℕ) → Answers 2 (jumpDone windows register address)
-  unfolding jumpDone
-  jump-answers address = judged-answers _ _ (event.Call address) (entry-judges windows address)
 
   pub close-answers : (address : ℕ) → Answers 3 (closeDone windows register address)
   unfolding closeDone

@@ -11,7 +11,7 @@ use Rattle.words.specs.Choice.{pick}
 use Rattle.script.specs.Answers.{numberOf, kindOf}
 use Rattle.script.specs.Opcodes.{lookedUp}
 use Rattle.script.specs.declared.Command.{Command}
-use Rattle.script.specs.declared.Command.the-variants.{Load, Fill, BootTable, Enable, Disable, Request, StartOver, Jump, JumpAndClose, Ping, SequentialRead}
+use Rattle.script.specs.declared.Command.the-variants.{Load, Fill, BootTable, Enable, Disable, Request, StartOver, JumpAndClose, Ping, SequentialRead}
 use Rattle.script.specs.declared.Found.the-variants.{Known}
 use Rattle.script.specs.declared.Mode.the-variants.{Flash}
 use Rattle.script.specs.declared.Refusal.{Refusal}
@@ -29,7 +29,6 @@ dataWords Enable s image = 0
 dataWords Disable s image = 0
 dataWords Request s image = 0
 dataWords StartOver s image = 0
-dataWords Jump s image = 0
 dataWords JumpAndClose s image = 0
 dataWords Ping s image = 0
 dataWords SequentialRead s image = 0

@@ -13,10 +13,10 @@ use Rattle.script.specs.declared.Command.{Command}
 use Rattle.script.specs.declared.Command.the-variants as command
 use Rattle.script.specs.declared.Event.the-variants.{Nothing}
 use Rattle.script.specs.declared.Found.{Found}
-use Rattle.script.specs.declared.Found.the-variants.{Known, Unknown}
+use Rattle.script.specs.declared.Found.the-variants.{Known, Retired, Unknown}
 use Rattle.script.specs.declared.Mode.the-variants.{Flash}
 use Rattle.script.specs.declared.Refusal.the-variants as refusal
-use Rattle.commands.specs.Commands.{loadJudged, loaded, loadFed, fillDone, fillMemory, settingDone, settingMemory, jumpDone, closeDone, soughtFrom}
+use Rattle.commands.specs.Commands.{loadJudged, loaded, loadFed, fillDone, fillMemory, settingDone, settingMemory, closeDone, soughtFrom}
 use Rattle.commands.specs.declared.Done.{Done}
 use Rattle.commands.specs.declared.Judged.{Judged}
 use Rattle.commands.specs.declared.Judged.the-variants.{Granted, Refused}
@@ -86,15 +86,15 @@ performed command.Enable s m image = accepted s Nothing (switchOn s) leaving m
 performed command.Disable s m image = accepted s Nothing (switchOff s) leaving m
 performed command.Request s m image = requested s (argument s image 0) (argument s image 1) leaving m
 performed command.StartOver s m image = stopped refusal.Opcode s leaving m
-performed command.Jump s m image = after s (jumpDone (s .windows) (s .register) (argument s image 0)) 2 leaving m
 performed command.JumpAndClose s m image =
     entered (after s (closeDone (s .windows) (s .register) (argument s image 0)) 2) leaving m
 performed command.Ping s m image = stopped refusal.Opcode s leaving m
 performed command.SequentialRead s m image = accepted s Nothing (goTo s (s .register) (s .offset + 4)) leaving m
 
--- 6, then 5 for the arguments
+-- 6 or 15, then 5 for the arguments
 abbrev pub atRow : Session → List ℕ → List ℕ → Found → Outcome
 atRow s m image Unknown = stopped refusal.Opcode s leaving m
+atRow s m image Retired = stopped refusal.Retired s leaving m
 atRow s m image (Known command words) =
     pick (not (present image (s .offset + 4) words)) (stopped refusal.Missing s leaving m)
     (performed command s m image)

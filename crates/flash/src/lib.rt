@@ -4,7 +4,7 @@ ghost use mathlib.Core.Path.{_≡_};
 ghost use Prim.Native.Nat.{_+_, _*_, _^_, _≤_, _<_};
 ghost use lib.Dec.{eqb};
 ghost use lib.ListN.{length};
-ghost use Rattle.commands.specs.Commands.{jumpDone, closeDone, soughtFrom};
+ghost use Rattle.commands.specs.Commands.{closeDone, soughtFrom};
 ghost use Rattle.flash.specs.Opening.{goodLength, begun, refusedBy, openedBy};
 ghost use Rattle.flash.specs.Sessions.{goTo, switchOn, switchOff, unchanged, stopped, accepted};
 ghost use Rattle.flash.specs.Step.{argument, after, loadAt, soughtAs, requested, entered, performed, atRow, stepOf};
@@ -390,19 +390,6 @@ fn request(session: Session, expected: u32, seek: u32) -> Called
     retry(session, seek)
 }
 
-// Jump.
-fn jump(session: Session, address: u32) -> Called
-    requires { ⌜ session .offset ≤ 65536 ⌝ }
-    ensures { λ r. ⌜ r ≡ after session (jumpDone (session .windows) (session .register) address) 2 ⌝ }
-{
-    let windows = session.windows;
-    finish(
-        session,
-        commands::jump(windows, session.register, address),
-        2,
-    )
-}
-
 // Jump & Close: entered, the session is ended.
 fn jump_and_close(session: Session, address: u32) -> Called
     requires { ⌜ session .offset ≤ 65536 ⌝ }
@@ -444,7 +431,6 @@ fn perform(command: Command, session: Session, memory: &mut [u8], image: &[u8]) 
             argument_word(session, image, 1),
         ),
         Command::StartOver => halt(Refusal::Opcode, session),
-        Command::Jump => jump(session, argument_word(session, image, 0)),
         Command::JumpAndClose => jump_and_close(session, argument_word(session, image, 0)),
         Command::Ping => halt(Refusal::Opcode, session),
         Command::SequentialRead => pass_over(session),
@@ -459,6 +445,7 @@ fn at_row(found: Found, session: Session, memory: &mut [u8], image: &[u8]) -> Ca
 {
     match found {
         Found::Unknown => halt(Refusal::Opcode, session),
+        Found::Retired => halt(Refusal::Retired, session),
         Found::Known(command, words) => {
             let from = (session.offset as usize) + 4;
             if image.len() < from + 4 * (words as usize) {

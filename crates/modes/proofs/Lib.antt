@@ -1,2 +1,3 @@
 pub mod ImageWords
 pub mod Modes
+pub mod Retired

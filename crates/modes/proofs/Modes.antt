@@ -120,11 +120,6 @@ module _ (k : Core) (offset size limit retries : ℕ) (m image : List ℕ) (opco
   unfolding doneAtLast
   setting-same a b c d p q r t = rw (p, q, r, t) (done-same (asking (begun k) command.BootTable 1 _) offset size limit retries _ 5 _)
 
-  jump-same : (a : ℕ) → a ≡ argument session image 0
-      → Same (step.performed command.Jump session m image) (doneWith opcode command.Jump (begun k) m (a ∷ []))
-  unfolding doneAtLast
-  jump-same a p = rw p (done-same (asking (begun k) command.Jump 1 noneKept) offset size limit retries _ 2 m)
-
   close-same : (a : ℕ) → a ≡ argument session image 0
       → Same (step.performed command.JumpAndClose session m image) (doneWith opcode command.JumpAndClose (begun k) m (a ∷ []))
   unfolding doneAtLast
@@ -152,7 +147,6 @@ module _ (k : Core) (offset size limit retries : ℕ) (m image : List ℕ) (opco
       (record { refusal = refl; event = refl; memory = refl; alike = record { windows = refl; ended = refl; on = refl; register = refl } })
   by-command command.Request words other f s = absurd (omega (arith, eqb-true words 2 f, eqb-true words 0 s))
   by-command command.StartOver words other f s = absurd (false≢true f)
-  by-command command.Jump words other f s = rw (eqb-true words 1 f) (jump-same _ (places 0 _ (omega arith)))
   by-command command.JumpAndClose words other f s = rw (eqb-true words 1 f) (close-same _ (places 0 _ (omega arith)))
   by-command command.Ping words other f s = absurd (false≢true f)
   by-command command.SequentialRead words other f s = absurd (false≢true s)
@@ -306,6 +300,5 @@ shared-rows =
       enable = record { in-flash = refl; in-sent = refl };
       disable = record { in-flash = refl; in-sent = refl };
       request = record { in-flash = refl; in-sent = refl };
-      jump = record { in-flash = refl; in-sent = refl };
       jump-and-close = record { in-flash = refl; in-sent = refl };
     }

@@ -9,7 +9,7 @@ use Rattle.words.specs.Bytes.{wordAt}
 use Rattle.windows.specs.Window.{sumOf}
 use Rattle.script.specs.Opcodes.{lookedUp}
 use Rattle.script.specs.declared.Command.{Command}
-use Rattle.script.specs.declared.Command.the-variants.{Load, Fill, BootTable, Enable, Disable, Request, Jump, JumpAndClose}
+use Rattle.script.specs.declared.Command.the-variants.{Load, Fill, BootTable, Enable, Disable, Request, JumpAndClose}
 use Rattle.script.specs.declared.Found.the-variants.{Known}
 use Rattle.script.specs.declared.Mode.the-variants.{Flash, Sent}
 use Rattle.script.specs.declared.Refusal.{Refusal}
@@ -115,5 +115,4 @@ pub record SharedRows : Type 0 where
   pub enable : RowsOf 0x58535903 Enable 0 0
   pub disable : RowsOf 0x58535904 Disable 0 0
   pub request : RowsOf 0x58535902 Request 2 0
-  pub jump : RowsOf 0x58535905 Jump 1 1
   pub jump-and-close : RowsOf 0x58535906 JumpAndClose 1 1

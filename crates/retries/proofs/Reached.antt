@@ -15,7 +15,7 @@ use Rattle.script.specs.declared.Command.{Command}
 use Rattle.script.specs.declared.Command.the-variants as command
 use Rattle.script.specs.declared.Event.{Event}
 use Rattle.script.specs.declared.Found.{Found}
-use Rattle.script.specs.declared.Found.the-variants.{Known, Unknown}
+use Rattle.script.specs.declared.Found.the-variants.{Known, Retired, Unknown}
 use Rattle.script.specs.declared.Mode.the-variants.{Sent}
 use Rattle.script.specs.declared.Refusal.{Refusal}
 use Rattle.commands.specs.Commands.{loadJudged}
@@ -75,7 +75,6 @@ performed-keeps command.Enable k m kept word = quietly untouched
 performed-keeps command.Disable k m kept word = quietly untouched
 performed-keeps command.Request k m kept word = saying (k .tally .register)
 performed-keeps command.StartOver k m kept word = quietly untouched
-performed-keeps command.Jump k m kept word = done-keeps k m m _ untouched
 performed-keeps command.JumpAndClose k m kept word = entered-keeps k m _ (done-keeps k m m _ untouched)
 performed-keeps command.Ping k m kept word = saying word
 performed-keeps command.SequentialRead k m kept word = quietly untouched
@@ -113,6 +112,7 @@ another-awaited k here differs unbegun e = let z = differs (sym here ∙ unbegun
 -- an opcode: one that the table has begins the session, another leaves the core as it was but ended
 opcode-follows : (k : Core) (m : List ℕ) (word : ℕ) → Unbegun k → (found : Found) → Follows (k .windows) m (atOpcode k m word found)
 opcode-follows k m word unbegun Unknown = record { same-windows = refl; unbegun = unbegun; memory = untouched; words = λ z. omega (arith, z) }
+opcode-follows k m word unbegun Retired = record { same-windows = refl; unbegun = unbegun; memory = untouched; words = λ z. omega (arith, z) }
 opcode-follows k m word unbegun (Known c words) =
     begun-follows (begun k) m _ true≢false (opening-keeps word (begun k) m _ (toward-keeps c words (begun k) m noneKept 0))
 

@@ -21,18 +21,17 @@ numberOf refusal.Entry = 10
 numberOf refusal.Checksum = 11
 numberOf refusal.Seek = 12
 numberOf refusal.Ended = 14
+numberOf refusal.Retired = 15
 numberOf refusal.Call = 19
 
--- an event's kind: 0 nothing, 1 wait, 2 call an address, 3 enter one
+-- an event's kind: 0 nothing, 1 wait, 3 enter an address; 2 was a call, and stays unused
 abbrev pub kindOf : Event → ℕ
 kindOf event.Nothing = 0
 kindOf (event.Wait cycles) = 1
-kindOf (event.Call address) = 2
 kindOf (event.Enter address) = 3
 
 -- the cycles or the address that an event names
 abbrev pub valueOf : Event → ℕ
 valueOf event.Nothing = 0
 valueOf (event.Wait cycles) = cycles
-valueOf (event.Call address) = address
 valueOf (event.Enter address) = address

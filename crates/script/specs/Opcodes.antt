@@ -5,12 +5,12 @@ use mathlib.Core.List.{List, [], _∷_}
 use lib.Dec.{eqb}
 use Rattle.words.specs.Choice.{pick}
 use Rattle.script.specs.declared.Command.{Command}
-use Rattle.script.specs.declared.Command.the-variants.{Load, Fill, BootTable, Enable, Disable, Request, StartOver, Jump, JumpAndClose, Ping, SequentialRead}
+use Rattle.script.specs.declared.Command.the-variants.{Load, Fill, BootTable, Enable, Disable, Request, StartOver, JumpAndClose, Ping, SequentialRead}
 use Rattle.script.specs.declared.Mode.{Mode}
 use Rattle.script.specs.declared.Mode.the-variants.{Sent, Flash}
 use Rattle.script.specs.declared.Row.{Row}
 use Rattle.script.specs.declared.Found.{Found}
-use Rattle.script.specs.declared.Found.the-variants.{Known, Unknown}
+use Rattle.script.specs.declared.Found.the-variants.{Known, Retired, Unknown}
 
 -- a row that both modes allow, only flash mode, only sent mode
 abbrev pub both : ℕ → Command → ℕ → Row
@@ -33,11 +33,14 @@ rows =
     ∷ onlyFlash 0x58535902 Request 2
     ∷ onlySent 0x58535902 Request 0
     ∷ onlySent 0x58535908 StartOver 0
-    ∷ both 0x58535905 Jump 1
     ∷ both 0x58535906 JumpAndClose 1
     ∷ onlySent 0x5853590B Ping 1
     ∷ onlyFlash 0x58535963 SequentialRead 0
     ∷ []
+
+-- the opcode that no mode takes any more: Jump
+abbrev pub retired : ℕ
+retired = 0x58535905
 
 -- does a mode allow a row?
 abbrev pub allowed : Row → Mode → Bool
@@ -56,4 +59,4 @@ foundIn (row ∷ rest) opcode mode =
 
 -- what the table says of an opcode in a mode
 unfoldable pub lookedUp : ℕ → Mode → Found
-lookedUp opcode mode = foundIn rows opcode mode
+lookedUp opcode mode = pick (eqb opcode retired) Retired (foundIn rows opcode mode)

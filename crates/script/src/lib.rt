@@ -20,6 +20,7 @@ pub enum Refusal {
     Checksum,
     Seek,
     Ended,
+    Retired,
     Call,
 }
 
@@ -43,6 +44,7 @@ impl Refusal {
             Refusal::Checksum => 11,
             Refusal::Seek => 12,
             Refusal::Ended => 14,
+            Refusal::Retired => 15,
             Refusal::Call => 19,
         }
     }
@@ -52,31 +54,28 @@ impl Refusal {
 pub enum Event {
     Nothing,
     Wait(u32),
-    Call(u32),
     Enter(u32),
 }
 
 impl Event {
-    // 0 nothing, 1 wait, 2 call, 3 enter.
+    // 0 nothing, 1 wait, 3 enter; 2 was a call of the retired Jump.
     pub fn kind(self) -> u8
         ensures { λ r. ⌜ r ≡ kindOf self ⌝ }
     {
         match self {
             Event::Nothing => 0,
             Event::Wait(_) => 1,
-            Event::Call(_) => 2,
             Event::Enter(_) => 3,
         }
     }
 
-    // The cycles to wait, or the address to call or to enter.
+    // The cycles to wait, or the address to enter.
     pub fn value(self) -> u32
         ensures { λ r. ⌜ r ≡ valueOf self ⌝ }
     {
         match self {
             Event::Nothing => 0,
             Event::Wait(cycles) => cycles,
-            Event::Call(address) => address,
             Event::Enter(address) => address,
         }
     }
@@ -96,7 +95,6 @@ pub enum Command {
     Disable,
     Request,
     StartOver,
-    Jump,
     JumpAndClose,
     Ping,
     SequentialRead,
@@ -111,7 +109,7 @@ pub struct Row {
     pub flash: bool,
 }
 
-pub const ROWS: [Row; 12] = [
+pub const ROWS: [Row; 11] = [
     Row {
         opcode: 0x5853_5901,
         command: Command::Load,
@@ -169,13 +167,6 @@ pub const ROWS: [Row; 12] = [
         flash: false,
     },
     Row {
-        opcode: 0x5853_5905,
-        command: Command::Jump,
-        words: 1,
-        sent: true,
-        flash: true,
-    },
-    Row {
         opcode: 0x5853_5906,
         command: Command::JumpAndClose,
         words: 1,
@@ -198,9 +189,13 @@ pub const ROWS: [Row; 12] = [
     },
 ];
 
+// The opcode that no mode takes any more: Jump.
+pub const RETIRED: u32 = 0x5853_5905;
+
 // What the table says of a word where an opcode is awaited.
 pub enum Found {
     Known(Command, u32),
+    Retired,
     Unknown,
 }
 
@@ -228,13 +223,16 @@ fn row_first(row: Row, opcode: u32, mode: Mode, later: Found) -> Found
     later
 }
 
-// The command of an opcode in a mode, with its argument words. The rows are gone through from the last to the first.
+// The command of an opcode in a mode, with its argument words, unless the opcode is retired. The rows are gone through from the last to the first.
 pub fn look_up(opcode: u32, mode: Mode) -> Found
     ensures { λ r. ⌜ r ≡ lookedUp opcode mode ⌝ }
 {
+    if opcode == RETIRED {
+        return Found::Retired;
+    }
     let table = ROWS;
     let mut found = Found::Unknown;
-    let mut i: usize = 12;
+    let mut i: usize = 11;
     while 0 < i {
         i -= 1;
         let row = table[i];

@@ -19,7 +19,7 @@ use Rattle.commands.specs.declared.Judged.the-variants.{Granted}
 use native.Mathlib.Omega.{arith}
 use Rattle.script.specs.Opcodes.{lookedUp}
 use Rattle.script.specs.declared.Found.{Found}
-use Rattle.script.specs.declared.Found.the-variants.{Known, Unknown}
+use Rattle.script.specs.declared.Found.the-variants.{Known, Retired, Unknown}
 use Rattle.script.specs.declared.Mode.the-variants.{Sent}
 use Rattle.script.specs.declared.Refusal.the-variants as refusal
 use Rattle.sent.specs.Line.{Outcome, pushed, plainly, gathered, carried, isStart, byteStep}
@@ -47,6 +47,7 @@ module _ (s : Session) (o : machine.Outcome) where
 opcode-served : (k : Core) (m : List ℕ) (word : ℕ) (f : Found) → served (opcodePurpose f) k m word ≡ atOpcode k m word f
 unfolding pick
 opcode-served k m word Unknown = refl
+opcode-served k m word Retired = refl
 opcode-served k m word (Known command words) = refl
 
 pub purpose-served : (p : Phase) (k : Core) (m : List ℕ) (word : ℕ) → served (purposeOf p word) k m word ≡ inPhase p k m word

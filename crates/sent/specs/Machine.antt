@@ -13,11 +13,11 @@ use Rattle.script.specs.declared.Command.{Command}
 use Rattle.script.specs.declared.Command.the-variants as command
 use Rattle.script.specs.declared.Event.the-variants.{Nothing}
 use Rattle.script.specs.declared.Found.{Found}
-use Rattle.script.specs.declared.Found.the-variants.{Known, Unknown}
+use Rattle.script.specs.declared.Found.the-variants.{Known, Retired, Unknown}
 use Rattle.script.specs.declared.Mode.the-variants.{Sent}
 use Rattle.script.specs.declared.Refusal.{Refusal}
 use Rattle.script.specs.declared.Refusal.the-variants as refusal
-use Rattle.commands.specs.Commands.{loadJudged, loaded, fillDone, fillMemory, settingDone, settingMemory, jumpDone, closeDone}
+use Rattle.commands.specs.Commands.{loadJudged, loaded, fillDone, fillMemory, settingDone, settingMemory, closeDone}
 use Rattle.commands.specs.declared.Done.{Done}
 use Rattle.commands.specs.declared.Judged.{Judged}
 use Rattle.commands.specs.declared.Judged.the-variants.{Granted, Refused}
@@ -113,7 +113,6 @@ performed command.Enable k m kept word = quiet (changed k (k .ended) true (k .be
 performed command.Disable k m kept word = quiet (changed k (k .ended) false (k .begun) (k .tally .register) phase.Opcode) leaving m
 performed command.Request k m kept word = said (oneWord (k .tally .register)) (await k 0 phase.Opcode) leaving m
 performed command.StartOver k m kept word = quiet (await k 0 phase.Opcode) leaving m
-performed command.Jump k m kept word = after k (jumpDone (k .windows) (k .tally .register) word) leaving m
 performed command.JumpAndClose k m kept word = entered (after k (closeDone (k .windows) (k .tally .register) word)) leaving m
 performed command.Ping k m kept word = said (oneWord word) (await k (k .tally .register) (echoing word)) leaving m
 performed command.SequentialRead k m kept word = refused k refusal.Opcode leaving m
@@ -139,9 +138,10 @@ acknowledging opcode t =
 abbrev pub opening : ℕ → Outcome → Outcome
 opening opcode o = acknowledging opcode (o .answer) leaving o .memory
 
--- an opcode, by what the table says of it: 6, or a command with as many words to come as its row has
+-- an opcode, by what the table says of it: 6 or 15, or a command with as many words to come as its row has
 abbrev pub atOpcode : Core → List ℕ → ℕ → Found → Outcome
 atOpcode k m opcode Unknown = refused k refusal.Opcode leaving m
+atOpcode k m opcode Retired = refused k refusal.Retired leaving m
 atOpcode k m opcode (Known command words) = opening opcode (toward command words (begun k) m noneKept 0)
 
 -- a whole word, by the phase that awaits it

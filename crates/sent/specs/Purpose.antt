@@ -8,16 +8,18 @@ use Rattle.script.specs.Opcodes.{lookedUp}
 use Rattle.script.specs.declared.Found.{Found}
 use Rattle.script.specs.declared.Found.the-variants as found
 use Rattle.script.specs.declared.Mode.the-variants.{Sent}
-use Rattle.sent.specs.Machine.{Outcome, noneKept, toward, begun, opening, atOpcode, inPhase}
+use Rattle.script.specs.declared.Refusal.the-variants as refusal
+use Rattle.sent.specs.Machine.{Outcome, _leaving_, refused, noneKept, toward, begun, opening, inPhase}
 use Rattle.sent.specs.declared.Core.{Core}
 use Rattle.sent.specs.declared.Phase.{Phase}
 use Rattle.sent.specs.declared.Phase.the-variants as phase
 use Rattle.sent.specs.declared.Purpose.{Purpose}
-use Rattle.sent.specs.declared.Purpose.the-variants.{Unknown, Command, Data, Echo}
+use Rattle.sent.specs.declared.Purpose.the-variants.{Refused, Command, Data, Echo}
 
--- an opcode: the words to come are those of its row, and none of them is here yet
+-- an opcode: not taken; or the words to come are those of its row, and none of them is here yet
 abbrev pub opcodePurpose : Found → Purpose
-opcodePurpose found.Unknown = Unknown
+opcodePurpose found.Unknown = Refused refusal.Opcode
+opcodePurpose found.Retired = Refused refusal.Retired
 opcodePurpose (found.Known command words) = Command true command words noneKept 0
 
 -- a word, by the phase that awaits it
@@ -29,7 +31,7 @@ purposeOf (phase.Echo n) word = Echo n
 
 -- a word taken for its purpose
 abbrev pub served : Purpose → Core → List ℕ → ℕ → Outcome
-served Unknown k m word = atOpcode k m word found.Unknown
+served (Refused q) k m word = refused k q leaving m
 served (Command opens command left kept argument) k m word =
     pick opens (opening word (toward command left (begun k) m kept argument)) (toward command left k m kept argument)
 served (Data end left) k m word = inPhase (phase.Data end left) k m word

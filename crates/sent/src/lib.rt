@@ -10,7 +10,7 @@ ghost use Rattle.checksum.specs.Checksum.{fed, fedWords};
 ghost use Rattle.windows.specs.Map.{zeroWindow};
 ghost use Rattle.windows.specs.Window.{sumOf};
 ghost use Rattle.script.specs.Answers.{numberOf};
-ghost use Rattle.commands.specs.Commands.{loadJudged, loaded, jumpDone, closeDone};
+ghost use Rattle.commands.specs.Commands.{loadJudged, loaded, closeDone};
 ghost use Rattle.sent.specs.Line.{pushed, plainly, gathered, carried, isStart, byteStep};
 ghost use Rattle.sent.specs.Machine.{
   changed,
@@ -68,9 +68,9 @@ pub enum Phase {
     Echo(u32),
 }
 
-// What a word is for. Command: whether it is the opcode, the command, how many words are to come, those kept, and the argument that it is.
+// What a word is for. Refused: an opcode that is not taken. Command: whether it is the opcode, the command, how many words are to come, those kept, and the argument that it is.
 pub enum Purpose {
-    Unknown,
+    Refused(Refusal),
     Command(bool, Command, u32, Kept, u32),
     Data(usize, u32),
     Echo(u32),
@@ -656,15 +656,6 @@ fn request(core: Core) -> Taken
     say(reply_word(tally.register), moved(core, 0, Phase::Opcode))
 }
 
-// Jump.
-fn jump(core: Core, address: u32) -> Taken
-    ensures { λ r. ⌜ r ≡ after core (jumpDone (core .windows) (core .tally .register) address) ⌝ }
-{
-    let windows = core.windows;
-    let tally = core.tally;
-    finish(core, commands::jump(windows, tally.register, address))
-}
-
 // Jump & Close: entered, the session is ended.
 fn jump_and_close(core: Core, address: u32) -> Taken
     ensures { λ r. ⌜ r ≡ entered (after core (closeDone (core .windows) (core .tally .register) address)) ⌝ }
@@ -717,7 +708,6 @@ fn perform(core: Core, memory: &mut [u8], command: Command, kept: Kept, word: u3
         Command::Disable => switch(core, false, register),
         Command::Request => request(core),
         Command::StartOver => switch(core, on, 0),
-        Command::Jump => jump(core, word),
         Command::JumpAndClose => jump_and_close(core, word),
         Command::Ping => echo(core, word, word),
         Command::SequentialRead => refuse(core, Refusal::Opcode),
@@ -758,7 +748,8 @@ fn opcode_purpose(found: Found) -> Purpose
     ensures { λ r. ⌜ r ≡ opcodePurpose found ⌝ }
 {
     match found {
-        Found::Unknown => Purpose::Unknown,
+        Found::Unknown => Purpose::Refused(Refusal::Opcode),
+        Found::Retired => Purpose::Refused(Refusal::Retired),
         Found::Known(command, words) => {
             let none = Kept {
                 first: 0,
@@ -821,7 +812,7 @@ pub fn take_word(core: Core, memory: &mut [u8], word: u32) -> Taken
     let phase = stage.phase;
     let purpose = purpose_of(phase, word);
     match purpose {
-        Purpose::Unknown => refuse(core, Refusal::Opcode),
+        Purpose::Refused(refusal) => refuse(core, refusal),
         Purpose::Command(opens, command, left, kept, argument) => take_command(
             core,
             memory,

@@ -75,6 +75,20 @@ pub const LOAD: [u32; 8] = [
 // The three words of 01's check program.
 pub const CLOSE: [u32; 3] = [0x4150_4954, 0x5853_5906, 0x8000_0000];
 
+// The load of 5 bytes, then the retired Jump.
+pub const OLD: [u32; 10] = [
+    0x4150_4954,
+    0x5853_5901,
+    0x8000_0000,
+    0x0000_0005,
+    0x0403_0201,
+    0xFFFF_FF05,
+    0x5853_5905,
+    0x8000_0000,
+    0x5853_5906,
+    0x8000_0000,
+];
+
 // The load of 5 bytes with the checksum on, and a Request.
 pub const COVERED: [u32; 12] = [
     0x4150_4954,

@@ -72,26 +72,17 @@ enum-told-8 c = search needs
 argument-word-requires-3 : tie.Need-argument-word-requires-3
 argument-word-requires-3 c κs = search needs
 
-jump-requires : tie.Need-jump-requires
-jump-requires c κs = search needs
+jump-and-close-requires : tie.Need-jump-and-close-requires
+jump-and-close-requires c κs = search needs
 
 enum-told-9 : tie.Need-enum-told-9
 enum-told-9 c = search needs
 
-argument-word-requires-4 : tie.Need-argument-word-requires-4
-argument-word-requires-4 c κs = search needs
-
-jump-and-close-requires : tie.Need-jump-and-close-requires
-jump-and-close-requires c κs = search needs
-
-enum-told-10 : tie.Need-enum-told-10
-enum-told-10 c = search needs
-
 halt-requires-2 : tie.Need-halt-requires-2
 halt-requires-2 c κs = search needs
 
-enum-told-11 : tie.Need-enum-told-11
-enum-told-11 c = search needs
+enum-told-10 : tie.Need-enum-told-10
+enum-told-10 c = search needs
 
 pass-over-requires : tie.Need-pass-over-requires
 pass-over-requires c κs = search needs
@@ -151,24 +142,18 @@ returns-8 : tie.Need-returns-8
 returns-8 c =
     let a = c .before .before .before .before .before .before .args in
     let known = c .before .before .enum-told8 .given .1 in
-    (rw (c .before .argument-word3 .ensures) at (c .jump .ensures) ∙ known-answer (a .session) (now (a .memory)) (now (a .image)) known, known-memory (a .session) (now (a .memory)) (now (a .image)) known)
+    (rw (c .before .argument-word3 .ensures) at (c .jump-and-close .ensures) ∙ known-answer (a .session) (now (a .memory)) (now (a .image)) known, known-memory (a .session) (now (a .memory)) (now (a .image)) known)
 
 returns-9 : tie.Need-returns-9
 returns-9 c =
-    let a = c .before .before .before .before .before .before .args in
-    let known = c .before .before .enum-told9 .given .1 in
-    (rw (c .before .argument-word4 .ensures) at (c .jump-and-close .ensures) ∙ known-answer (a .session) (now (a .memory)) (now (a .image)) known, known-memory (a .session) (now (a .memory)) (now (a .image)) known)
+    let a = c .before .before .before .before .before .args in
+    let known = c .before .enum-told9 .given .1 in
+    (c .halt2 .ensures ∙ known-answer (a .session) (now (a .memory)) (now (a .image)) known, known-memory (a .session) (now (a .memory)) (now (a .image)) known)
 
 returns-10 : tie.Need-returns-10
 returns-10 c =
     let a = c .before .before .before .before .before .args in
     let known = c .before .enum-told10 .given .1 in
-    (c .halt2 .ensures ∙ known-answer (a .session) (now (a .memory)) (now (a .image)) known, known-memory (a .session) (now (a .memory)) (now (a .image)) known)
-
-returns-11 : tie.Need-returns-11
-returns-11 c =
-    let a = c .before .before .before .before .before .args in
-    let known = c .before .enum-told11 .given .1 in
     (c .pass-over .ensures ∙ known-answer (a .session) (now (a .memory)) (now (a .image)) known, known-memory (a .session) (now (a .memory)) (now (a .image)) known)
 
 pub perform-spec : {M : Type 1} → statement M
@@ -193,13 +178,10 @@ perform-spec =
     halt-requires
     enum-told-8
     argument-word-requires-3
-    jump-requires
-    enum-told-9
-    argument-word-requires-4
     jump-and-close-requires
-    enum-told-10
+    enum-told-9
     halt-requires-2
-    enum-told-11
+    enum-told-10
     pass-over-requires
     same-length
     returns
@@ -213,5 +195,4 @@ perform-spec =
     returns-7
     returns-8
     returns-9
-    returns-10
-    returns-11)
+    returns-10)

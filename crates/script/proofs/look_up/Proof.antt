@@ -1,20 +1,26 @@
--- `script::look_up` meets its contract: what was found is what the rows from the place on answer.
+-- `script::look_up` meets its contract: an opcode that is not retired is found in the rows, and what was found is what the rows from the place on answer.
 use Prim.Native.Nat.{ℕ, _+_, _-_, _≤_}
 use mathlib.Core.Path.{_≡_, sym, ap, _∙_}
 use lib.ListN.{drop}
 use Rattle.words.specs.Choice.{pick}
+use Rattle.words.proofs.Choice.{chosen, passed}
 use Rattle.script.specs.Opcodes.{rows, foundIn, lookedUp}
 use borrow.Author.Needs.{needs}
+use borrow.Author.Tests.{eq-eqb, ne-eqb}
 use native.Mathlib.Omega.{arith}
 use Rattle.script.proofs.Rows.{found-from}
 use Rattle.script.proofs.look_up.Statement.{statement}
 use Rattle.script.proofs.look_up.Tie as tie
 
 abbrev Inv-loop : tie.InvT-loop
-Inv-loop opcode mode table found₀ i₀ found i = (i ≤ 12) × (found ≡ foundIn (drop i rows) opcode mode)
+Inv-loop opcode mode table found₀ i₀ found i = (i ≤ 11) × (found ≡ foundIn (drop i rows) opcode mode)
 
 abbrev μ-loop : tie.MeasureT-loop
 μ-loop opcode mode table found₀ i₀ found i = i
+
+returns : tie.Need-returns Inv-loop μ-loop
+unfolding lookedUp
+returns c = sym (chosen _ _ _ (eq-eqb _ _ (c .if1 .taken)))
 
 loop-holds : tie.Need-loop-holds Inv-loop μ-loop
 unfolding rows foundIn
@@ -40,7 +46,7 @@ unfolding rows
 loop-again c =
     let inv = c .before .before .before .loop .inv in
     let i = c .before .before .before .loop .i in
-    let a = c .before .before .before .before .args in
+    let a = c .before .before .before .before .before .args in
     let again : i ≡ i - 1 + 1 = omega arith in (
       omega arith,
       c .row-first .ensures
@@ -48,11 +54,11 @@ loop-again c =
           ∙ sym (found-from rows _ _ (i - 1) _ (omega arith)),
     )
 
-returns : tie.Need-returns Inv-loop μ-loop
+returns-2 : tie.Need-returns-2 Inv-loop μ-loop
 unfolding lookedUp
-returns c =
+returns-2 c =
     let none : c .before .loop .i ≡ 0 = omega arith in
-    rw none at (c .before .loop .inv .1)
+    rw none at (c .before .loop .inv .1) ∙ sym (passed _ _ _ (ne-eqb _ _ (c .before .before .if1 .left)))
 
 pub look-up-spec : {M : Type 1} → statement M
 look-up-spec =
@@ -60,6 +66,7 @@ look-up-spec =
     (tie.spec
     Inv-loop
     μ-loop
+    returns
     loop-holds
     sub-i
     mul-row
@@ -67,4 +74,4 @@ look-up-spec =
     row-first-requires
     loop-less
     loop-again
-    returns)
+    returns-2)

@@ -64,23 +64,17 @@ switch-requires-3 c κs = search needs
 enum-told-8 : tie.Need-enum-told-8
 enum-told-8 c = search needs
 
-jump-requires : tie.Need-jump-requires
-jump-requires c κs = search needs
+jump-and-close-requires : tie.Need-jump-and-close-requires
+jump-and-close-requires c κs = search needs
 
 enum-told-9 : tie.Need-enum-told-9
 enum-told-9 c = search needs
 
-jump-and-close-requires : tie.Need-jump-and-close-requires
-jump-and-close-requires c κs = search needs
-
-enum-told-10 : tie.Need-enum-told-10
-enum-told-10 c = search needs
-
 echo-requires : tie.Need-echo-requires
 echo-requires c κs = search needs
 
-enum-told-11 : tie.Need-enum-told-11
-enum-told-11 c = search needs
+enum-told-10 : tie.Need-enum-told-10
+enum-told-10 c = search needs
 
 refuse-requires : tie.Need-refuse-requires
 refuse-requires c κs = search needs
@@ -137,24 +131,18 @@ returns-8 : tie.Need-returns-8
 returns-8 c =
     let a = c .before .before .before .before .before .args in
     let known = c .before .enum-told8 .given .1 in
-    (c .jump .ensures ∙ known-answer (a .core) (now (a .memory)) (a .kept) (a .word) known, known-memory (a .core) (now (a .memory)) (a .kept) (a .word) known)
+    (c .jump-and-close .ensures ∙ known-answer (a .core) (now (a .memory)) (a .kept) (a .word) known, known-memory (a .core) (now (a .memory)) (a .kept) (a .word) known)
 
 returns-9 : tie.Need-returns-9
 returns-9 c =
     let a = c .before .before .before .before .before .args in
     let known = c .before .enum-told9 .given .1 in
-    (c .jump-and-close .ensures ∙ known-answer (a .core) (now (a .memory)) (a .kept) (a .word) known, known-memory (a .core) (now (a .memory)) (a .kept) (a .word) known)
+    (c .echo .ensures ∙ known-answer (a .core) (now (a .memory)) (a .kept) (a .word) known, known-memory (a .core) (now (a .memory)) (a .kept) (a .word) known)
 
 returns-10 : tie.Need-returns-10
 returns-10 c =
     let a = c .before .before .before .before .before .args in
     let known = c .before .enum-told10 .given .1 in
-    (c .echo .ensures ∙ known-answer (a .core) (now (a .memory)) (a .kept) (a .word) known, known-memory (a .core) (now (a .memory)) (a .kept) (a .word) known)
-
-returns-11 : tie.Need-returns-11
-returns-11 c =
-    let a = c .before .before .before .before .before .args in
-    let known = c .before .enum-told11 .given .1 in
     (c .refuse .ensures ∙ known-answer (a .core) (now (a .memory)) (a .kept) (a .word) known, known-memory (a .core) (now (a .memory)) (a .kept) (a .word) known)
 
 pub perform-spec : {M : Type 1} → statement M
@@ -176,12 +164,10 @@ perform-spec =
     enum-told-7
     switch-requires-3
     enum-told-8
-    jump-requires
-    enum-told-9
     jump-and-close-requires
-    enum-told-10
+    enum-told-9
     echo-requires
-    enum-told-11
+    enum-told-10
     refuse-requires
     returns
     same-length
@@ -194,5 +180,4 @@ perform-spec =
     returns-7
     returns-8
     returns-9
-    returns-10
-    returns-11)
+    returns-10)

@@ -1,0 +1,25 @@
+-- Where Jump stands both modes refuse it with 15: the look-up answers retired before any row is asked, and so before an argument is looked for.
+use mathlib.Core.Path.{_≡_, ap, _∙_}
+use Rattle.script.specs.declared.Found.{Found}
+use Rattle.script.specs.declared.Mode.the-variants.{Flash, Sent}
+use Rattle.script.specs.Opcodes.{lookedUp}
+use Rattle.script.proofs.Retired.{exactly-jump}
+use Rattle.flash.specs.Step.{atRow}
+use Rattle.flash.proofs.Cases.{call-row}
+use Rattle.sent.specs.Machine.{atOpcode, inPhase, wordStep}
+use Rattle.sent.specs.declared.Phase.{Phase}
+use Rattle.modes.specs.Retired.{JumpRefused}
+use Prim.Native.Nat.{ℕ}
+
+pub jump-refused : JumpRefused
+unfolding wordStep
+jump-refused =
+    record {
+      called = λ s m image running lent sound present jump.
+          call-row s m image running lent sound present
+          ∙ ap (λ (word : ℕ). atRow s m image (lookedUp word Flash)) jump
+          ∙ ap (λ (f : Found). atRow s m image f) (exactly-jump .retired Flash);
+      sent = λ k m awaits.
+          ap (λ (p : Phase). inPhase p k m 0x58535905) awaits
+          ∙ ap (λ (f : Found). atOpcode k m 0x58535905 f) (exactly-jump .retired Sent);
+    }

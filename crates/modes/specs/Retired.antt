@@ -1,0 +1,27 @@
+-- Jump, 0x58535905, is retired: what both modes answer where it stands as an opcode.
+use Prim.Native.Nat.{ℕ, _+_, _≤_}
+use mathlib.Core.Bool.{true, false, _&&_}
+use mathlib.Core.List.{List}
+use mathlib.Core.Path.{_≡_}
+use lib.Dec.{eqb}
+use lib.ListN.{length}
+use Rattle.words.specs.Bytes.{wordAt}
+use Rattle.windows.specs.Window.{sumOf}
+use Rattle.script.specs.declared.Refusal.the-variants.{Retired}
+use Rattle.flash.specs.Opening.{goodLength}
+use Rattle.flash.specs.Sessions as flash
+use Rattle.flash.specs.Step.{stepOf}
+use Rattle.flash.specs.declared.Session.{Session}
+use Rattle.sent.specs.Machine as machine
+use Rattle.sent.specs.Machine.{wordStep}
+use Rattle.sent.specs.declared.Core.{Core}
+use Rattle.sent.specs.declared.Phase.the-variants.{Opcode}
+
+pub record JumpRefused : Type 0 where
+  -- a call on it, whatever stands after it in the image, also nothing: 15 at its offset, no event, the session ended and nothing else of it changed
+  pub called : (s : Session) (m image : List ℕ) → s .ended ≡ false → length m ≡ sumOf (s .windows)
+      → (goodLength (length image) && eqb (length image) (s .length)) ≡ true → s .offset + 4 ≤ length image
+      → wordAt image (s .offset) ≡ 0x58535905
+      → stepOf s m image ≡ flash._leaving_ (flash.stopped Retired s) m
+  -- sent: 15, no reply, no event, the core ended and nothing else of it changed, so that it has begun only if it had
+  pub sent : (k : Core) (m : List ℕ) → k .stage .phase ≡ Opcode → wordStep k m 0x58535905 ≡ machine._leaving_ (machine.refused k Retired) m

@@ -1,0 +1,35 @@
+-- Jump alone is retired: the look-up compares the opcode first, by computing, and a row that is found is never retired.
+use Prim.Native.Nat.{ℕ}
+use mathlib.Core.List.{List, [], _∷_}
+use mathlib.Core.Path.{_≡_, refl, sym, _∙_}
+use native.Mathlib.Omega.{arith}
+use lib.Dec.{eqb}
+use borrow.Author.Tests.{eqb-true}
+use Rattle.words.specs.Choice.{pick}
+use Rattle.words.proofs.Choice.{chosen, passed, by-test}
+use Rattle.script.specs.Opcodes.{rows, retired, rowServes, foundIn, lookedUp}
+use Rattle.script.specs.Retired.{ExactlyJump}
+use Rattle.script.specs.declared.Found.the-variants.{Known, Retired}
+use Rattle.script.specs.declared.Mode.{Mode}
+use Rattle.script.specs.declared.Row.{Row}
+
+never-found : (table : List Row) (opcode : ℕ) (mode : Mode) → foundIn table opcode mode ≡ Retired → ⊥
+unfolding foundIn
+never-found [] opcode mode found = let z : _≡_ {A = ℕ} 0 1 = cc in omega arith
+never-found (row ∷ rest) opcode mode found =
+    by-test (rowServes row opcode mode)
+    (λ serves.
+    let here : Known (row .command) (row .words) ≡ Retired = sym (chosen _ _ _ serves) ∙ found in
+    let z : _≡_ {A = ℕ} 0 1 = cc in
+    omega arith)
+    (λ other. never-found rest opcode mode (sym (passed _ _ _ other) ∙ found))
+
+pub exactly-jump : ExactlyJump
+unfolding lookedUp pick
+exactly-jump =
+    record {
+      retired = λ mode. refl;
+      only = λ opcode mode found.
+          by-test (eqb opcode retired) (λ same. eqb-true _ _ same)
+          (λ other. absurd (never-found rows opcode mode (sym (passed _ _ _ other) ∙ found)));
+    }
