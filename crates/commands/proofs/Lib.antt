@@ -1,4 +1,5 @@
 pub mod Feeding
+pub mod Filling
 pub mod Judging
 pub mod Loading
 pub mod Seeking

@@ -1,9 +1,9 @@
 // What a command does once its words are known, in either mode: judged first, then done. A refused command changes nothing.
 ghost use mathlib.Core.Path.{_≡_};
 ghost use mathlib.Core.List.{[], _∷_};
-ghost use Prim.Native.Nat.{_+_, _*_, _/_, min};
+ghost use Prim.Native.Nat.{ℕ, _+_, _*_, _/_, _%_, _≤_, min};
 ghost use lib.ListN.{length};
-ghost use Rattle.words.specs.Bytes.{sizeOf};
+ghost use Rattle.words.specs.Bytes.{byte, put, sizeOf};
 ghost use Rattle.words.specs.Choice.{pick};
 ghost use Rattle.checksum.specs.Checksum.{fedWords};
 ghost use Rattle.commands.specs.Commands.{
@@ -215,20 +215,51 @@ fn judge_fill(windows: [Window; 8], address: u32, size: u32, kind: UnitType) -> 
     }
 }
 
-// The pattern's bytes, each by the remainder of its place in the unit; none past the end.
+// The word that has the low unit of a pattern in each of its places.
+fn widened(unit: Unit, pattern: u32) -> u32
+    ensures { λ r. ⌜ ((i : ℕ) → byte r (i % 4) ≡ byte pattern (i % sizeOf unit)) ⌝ }
+{
+    match unit {
+        Unit::One => (pattern % 256) * 0x0101_0101,
+        Unit::Two => (pattern % 65536) * 0x0001_0001,
+        Unit::Four => pattern,
+    }
+}
+
+// A word again and again, each above the one before.
+fn fill_words(memory: &mut [u8], place: usize, count: usize, word: u32)
+    requires { ⌜ place + 4 * count ≤ length (now memory) ⌝ }
+    ensures { λ _. ⌜ now (memory .exit) ≡ filled (now (memory .entry)) place (4 * count) Unit.Four word ⌝ }
+{
+    let mut i: usize = 0;
+    while i < count {
+        words::write(memory, place + 4 * i, Unit::Four, word);
+        i += 1;
+    }
+}
+
+// The low bytes of a word, at most four; none past the end.
+fn put_low(memory: &mut [u8], place: usize, count: usize, word: u32)
+    requires { ⌜ count ≤ 4 ⌝ }
+    ensures { λ _. ⌜ now (memory .exit) ≡ put (now (memory .entry)) place count (byte word) ⌝ }
+{
+    let mut bytes = [0u8; 4];
+    words::write(&mut bytes, 0, Unit::Four, word);
+    copy(memory, place, &bytes[..count]);
+}
+
+// The pattern's unit again and again: words of whole units, then the low bytes of one more; none past the end.
 fn fill_bytes(memory: &mut [u8], place: usize, size: u32, unit: Unit, pattern: u32)
     ensures { λ _. ⌜ now (memory .exit) ≡ filled (now (memory .entry)) place size unit pattern ⌝ }
 {
     if memory.len() <= place {
         return;
     }
-    let bytes = unit.size();
+    let word = widened(unit, pattern);
     let n = least(size as usize, memory.len() - place);
-    let mut i: usize = 0;
-    while i < n {
-        memory[place + i] = ((pattern >> (8 * (i % bytes))) % 256) as u8;
-        i += 1;
-    }
+    let whole = n / 4;
+    fill_words(memory, place, whole, word);
+    put_low(memory, place + 4 * whole, n % 4, word);
 }
 
 // Fills a range where the command is granted.
