@@ -115,6 +115,7 @@ static const char *refusal_text(uint32_t refusal)
     case 10: return "wrong entry address";
     case 14: return "the session had already ended";
     case 15: return "a Jump, which is retired: the script is too old";
+    case 16: return "the data do not fit the field";
     case 19: return "too many bytes, or too little room for replies";
     default: return "a refusal that sent mode does not have";
     }

@@ -271,9 +271,16 @@ static uint32_t setting_unit(uint32_t type)
     return (type & 0xFF) < 2 ? (uint32_t)1 << (type & 0xFF) : 4;
 }
 
+/* Data that fit; at times the most that does. */
+static uint32_t choose_setting_data(struct random_source *random, uint32_t type)
+{
+    return fit_data(type, chance(random, 10) ? 0xFFFFFFFF : choose_pattern(random));
+}
+
 void write_good_setting(struct writer *writer)
 {
-    uint32_t type = choose_setting_type(&writer->random), data = choose_pattern(&writer->random), address, size;
+    uint32_t type = choose_setting_type(&writer->random), data = choose_setting_data(&writer->random, type);
+    uint32_t address, size;
 
     if (choose_range(writer, SET_RIGHT, setting_unit(type), 4, &address, &size))
         write_setting(writer, type, address, data, random_below(&writer->random, 1000));
@@ -400,12 +407,13 @@ void write_good_command(struct writer *writer)
 
 /* ---- Commands that a loader refuses, mostly ---- */
 
-enum flaw { TYPE_FLAW = 1, ALIGNMENT_FLAW = 2, RANGE_FLAW = 4 };
+enum flaw { TYPE_FLAW = 1, ALIGNMENT_FLAW = 2, RANGE_FLAW = 4, WIDTH_FLAW = 8 };
+enum { FILL_FLAWS = 3, SETTING_FLAWS = 4 };
 
-/* One flaw, or now and then several, so that their order is tried too. */
-static unsigned choose_flaws(struct random_source *random)
+/* One of the first `count` flaws, or now and then several, so that their order is tried too. */
+static unsigned choose_flaws(struct random_source *random, unsigned count)
 {
-    return chance(random, 70) ? 1u << random_below(random, 3) : 1 + random_below(random, 7);
+    return chance(random, 70) ? 1u << random_below(random, count) : 1 + random_below(random, (1u << count) - 1);
 }
 
 static const struct window *choose_window(struct writer *writer)
@@ -474,7 +482,7 @@ static void write_flawed_fill(struct writer *writer)
 {
     static const uint32_t wrong_types[] = {3, 4, 8, 0x100, 0x101, 0x10000, 0x80000000, 0xFFFFFFFF};
     struct random_source *random = &writer->random;
-    unsigned flaws = choose_flaws(random);
+    unsigned flaws = choose_flaws(random, FILL_FLAWS);
     uint32_t type = random_below(random, 3), unit = (uint32_t)1 << type, address = 0x80000000, size = 8;
 
     choose_range(writer, LOAD_RIGHT, unit, MEMORY_LIMIT, &address, &size);
@@ -511,13 +519,25 @@ static uint32_t choose_wrong_setting_type(struct random_source *random, uint32_t
     }
 }
 
+/* Data with one bit too many for a field: the least that is too wide, or with some higher bit. */
+static uint32_t widen_data(struct random_source *random, uint32_t type, uint32_t data)
+{
+    uint32_t width = data_width(type);
+
+    if (width == 32)
+        return data;
+    return chance(random, 40) ? (uint32_t)1 << width : data | (uint32_t)1 << (width + random_below(random, 32 - width));
+}
+
 static void write_flawed_setting(struct writer *writer)
 {
     struct random_source *random = &writer->random;
-    unsigned flaws = choose_flaws(random);
+    unsigned flaws = choose_flaws(random, SETTING_FLAWS);
     uint32_t type = choose_setting_type(random), unit = setting_unit(type), address = 0x80000000, size = 4;
-    uint32_t data = choose_pattern(random);
+    uint32_t data = choose_setting_data(random, type);
 
+    if (flaws & WIDTH_FLAW)
+        data = widen_data(random, type, data);
     choose_range(writer, SET_RIGHT, unit, 4, &address, &size);
     if (flaws & RANGE_FLAW)
         break_range(writer, unit, &address, &size);

@@ -234,8 +234,8 @@ static bool all_commands_met(void)
 
 static bool everything_met(const struct tally *tally)
 {
-    static const unsigned sent[] = {0, 1, 2, 6, 7, 8, 9, 10, 14, 15, 19};
-    static const unsigned flash[] = {0, 1, 2, 3, 4, 5, 6, 7, 8, 9, 10, 11, 12, 15};
+    static const unsigned sent[] = {0, 1, 2, 6, 7, 8, 9, 10, 14, 15, 16, 19};
+    static const unsigned flash[] = {0, 1, 2, 3, 4, 5, 6, 7, 8, 9, 10, 11, 12, 15, 16};
     bool is_met = all_refusals_met(tally, PLAIN_SENT, sent, sizeof sent / sizeof sent[0]);
 
     is_met &= all_refusals_met(tally, PLAIN_FLASH, flash, sizeof flash / sizeof flash[0]);

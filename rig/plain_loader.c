@@ -20,6 +20,7 @@ enum refusal {
     SEEK_WRONG = 12,
     SESSION_ENDED = 14,
     OPCODE_RETIRED = 15,
+    DATA_TOO_WIDE = 16,
     CALL_WRONG = 19
 };
 
@@ -237,12 +238,16 @@ static enum refusal fill(struct loader *loader, const uint32_t *arguments)
     return ACCEPTED;
 }
 
-/* Puts the low bits of the data into the bits `start` to `stop` of a word, and keeps the others. */
+/* All ones, as many as a field from bit `start` to bit `stop` has bits. */
+static uint32_t field_ones(uint32_t start, uint32_t stop)
+{
+    return 0xFFFFFFFF >> (31 - (stop - start));
+}
+
+/* Puts data that fit into the bits `start` to `stop` of a word, and keeps the others. */
 static uint32_t put_field(uint32_t word, uint32_t data, uint32_t start, uint32_t stop)
 {
-    uint32_t mask = (0xFFFFFFFF >> (31 - (stop - start))) << start;
-
-    return (word & ~mask) | (data << start & mask);
+    return (word & ~(field_ones(start, stop) << start)) | data << start;
 }
 
 static enum refusal boot_table(struct loader *loader, const uint32_t *arguments)
@@ -257,6 +262,8 @@ static enum refusal boot_table(struct loader *loader, const uint32_t *arguments)
         return TYPE_WRONG;
     if (is_field && (start > stop || stop > 31))
         return TYPE_WRONG;
+    if (is_field && (data & ~field_ones(start, stop)) != 0)
+        return DATA_TOO_WIDE;
     unit = is_field ? 4 : (uint32_t)1 << kind;
     if (address % unit != 0)
         return NOT_ALIGNED;

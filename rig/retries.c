@@ -199,7 +199,8 @@ static void write_command(struct writer *writer, const struct command *command)
     else if (command->kind == FILL)
         write_fill(writer, command->address, command->size, command->type, data);
     else
-        write_setting(writer, command->type, command->address, data, random_below(random, 1000));
+        write_setting(writer, command->type, command->address, fit_data(command->type, data),
+                      random_below(random, 1000));
 }
 
 static void write_commands(struct writer *writer, const struct commands *commands)

@@ -232,6 +232,18 @@ void write_ping(struct writer *writer, uint32_t count)
         write_word(writer, tricky_word(&writer->random));
 }
 
+uint32_t data_width(uint32_t type)
+{
+    uint32_t kind = type & 0xFF, start = type >> 8 & 0xFF, stop = type >> 16 & 0xFF;
+
+    return kind == 3 || kind == 4 ? stop - start + 1 : 32;
+}
+
+uint32_t fit_data(uint32_t type, uint32_t data)
+{
+    return data & 0xFFFFFFFF >> (32 - data_width(type));
+}
+
 /* Looks for a range in one window. */
 static bool choose_range_in(struct writer *writer, const struct window *window, uint32_t unit, uint32_t longest,
                             uint32_t *address, uint32_t *size)

@@ -100,6 +100,10 @@ void write_sent_request(struct writer *writer);
 void write_flash_request(struct writer *writer, uint32_t expected, uint32_t seek);
 void write_ping(struct writer *writer, uint32_t count);
 
+/* How many bits of data a setting has room for, by its type word: a field as many as it has, other kinds all 32. */
+uint32_t data_width(uint32_t type);
+uint32_t fit_data(uint32_t type, uint32_t data); /* the data, cut to that */
+
 /* Chooses a range of whole units that one window with the right grants; false where there is none. */
 bool choose_range(struct writer *writer, uint32_t right, uint32_t unit, uint32_t longest, uint32_t *address,
                   uint32_t *size);

@@ -1,5 +1,6 @@
--- The examples that document 01 marks as proved, in its order: each is a statement in the definitions of the lower crates.
-use Prim.Native.Nat.{ℕ}
+-- The examples that document 01 marks as proved, in its order and as the requests of 02 amend them: each is a statement in the definitions of the
+-- lower crates.
+use Prim.Native.Nat.{ℕ, _^_, _<_}
 use mathlib.Core.Path.{_≡_}
 use mathlib.Core.List.{List, [], _∷_}
 use lib.ListN.{replicate}
@@ -7,7 +8,7 @@ use Rattle.words.specs.Bytes.{byte}
 use Rattle.checksum.specs.Checksum.{fedWords}
 use Rattle.windows.specs.Map.{zeroWindow}
 use Rattle.windows.specs.declared.Window.{Window}
-use Rattle.commands.specs.Commands.{judgedNumber, soughtNumber, loadJudged, loadFed, fillJudged, fillMemory, shapeOf, shapeJudged, settingMemory, soughtFrom}
+use Rattle.commands.specs.Commands.{judgedNumber, soughtNumber, loadJudged, loadFed, fillJudged, fillMemory, settingJudged, settingMemory, soughtFrom}
 use Rattle.commands.specs.declared.Judged.the-variants.{Granted}
 use Rattle.commands.specs.declared.Sought.the-variants as sought
 
@@ -33,12 +34,14 @@ marked =
     ∷ (loadFed 0 0x10800040 (0xA ∷ 0 ∷ 0 ∷ 0 ∷ 0xB ∷ 0 ∷ 0 ∷ 0 ∷ 0xC ∷ 0 ∷ 0 ∷ 0 ∷ []) ≡ 0x8434A250)
     -- bits 4 to 6 of the word 0x7F become 1
     ∷ ((rest : List ℕ) → settingMemory windows (wordThen 0x7F rest) 0x00060403 0x80000000 1 ≡ wordThen 0x1F rest)
-    -- they take the low three bits of the data only, so 9 does the same
-    ∷ ((rest : List ℕ) → settingMemory windows (wordThen 0x7F rest) 0x00060403 0x80000000 9 ≡ wordThen 0x1F rest)
-    -- a field of bits 0 to 31: whatever the word was, it becomes the data
-    ∷ ((word value : ℕ) (rest : List ℕ) → settingMemory windows (wordThen word rest) 0x001F0003 0x80000000 value ≡ wordThen value rest)
-    -- a field that would start at bit 5 and stop at bit 4 is a wrong type word
-    ∷ (judgedNumber (shapeJudged windows (shapeOf 0x00040503) 0x80000000) ≡ 8)
+    -- they do not hold 9, which needs four bits: refused, and the word is kept
+    ∷ ((rest : List ℕ) → (judgedNumber (settingJudged windows 0x00060403 0x80000000 9) ≡ 16)
+    × (settingMemory windows (wordThen 0x7F rest) 0x00060403 0x80000000 9 ≡ wordThen 0x7F rest))
+    -- a field of bits 0 to 31: whatever the word was, it becomes the data, which are a word
+    ∷ ((word value : ℕ) (rest : List ℕ) → value < 2 ^ 32
+    → settingMemory windows (wordThen word rest) 0x001F0003 0x80000000 value ≡ wordThen value rest)
+    -- a field that would start at bit 5 and stop at bit 4 is a wrong type word, whatever the data
+    ∷ ((value : ℕ) → judgedNumber (settingJudged windows 0x00040503 0x80000000 value) ≡ 8)
     -- the window's last byte may be loaded
     ∷ (loadJudged windows 0x80000FFF 1 ≡ Granted 4095)
     -- one byte more would lie past the window's end

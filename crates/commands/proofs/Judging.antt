@@ -1,10 +1,11 @@
 -- What each judgement comes to, by the facts that its tests ask. Each law takes the tests of a definition one after the other.
 use Prim.Native.Nat.{ℕ, _%_}
-use mathlib.Core.Bool.{Bool, true, false, not, _&&_}
+use mathlib.Core.Bool.{Bool, true, false, not, _&&_, and-false}
 use mathlib.Core.List.{List}
 use mathlib.Core.Path.{_≡_, ap, ap₂}
 use borrow.Author.Tests.{eq-eqb, ne-eqb}
 use Rattle.words.specs.Bytes.{sizeOf}
+use Rattle.words.specs.Choice.{pick}
 use Rattle.words.specs.declared.Unit.{Unit as UnitOf}
 use Rattle.words.proofs.Choice.{chosen, passed, of-choice}
 use Rattle.windows.specs.Window.{placeOf}
@@ -15,7 +16,7 @@ use Rattle.windows.specs.declared.Right.{Right}
 use Rattle.windows.specs.declared.Right.the-variants as right
 use Rattle.script.specs.declared.Refusal.{Refusal}
 use Rattle.script.specs.declared.Refusal.the-variants as refusal
-use Rattle.commands.specs.Commands.{multiple, placed, rangeJudged, loadJudged, unitOf, unitsJudged, typeJudged, fillJudged, shapeJudged, entryJudged}
+use Rattle.commands.specs.Commands.{multiple, placed, rangeJudged, loadJudged, unitOf, unitsJudged, typeJudged, fillJudged, shapeOf, tooWide, shapeJudged, settingJudged, entryJudged}
 use Rattle.commands.specs.declared.Judged.{Judged}
 use Rattle.commands.specs.declared.Judged.the-variants.{Granted, Refused}
 use Rattle.commands.specs.declared.Shape.{Shape}
@@ -46,6 +47,20 @@ module _ (windows : List Window) (wanted : Right) (unit : UnitOf) (address size 
   unfolding unitsJudged multiple
   units-range a s = passed _ _ _ (ap₂ (λ (t u : Bool). not (t && u)) (eq-eqb _ _ a) (eq-eqb _ _ s))
 
+module _ (windows : List Window) (address value : ℕ) {shape : Shape} {unit : UnitOf} {start width : ℕ} {field : Bool}
+    (known : shape ≡ Bits unit start width field) where
+  pub shape-too-wide : field ≡ true → tooWide width value ≡ true → shapeJudged windows shape address value ≡ Refused refusal.TooWide
+  unfolding pick
+  shape-too-wide f w = rw (known, f, w)
+
+  pub shape-fits : tooWide width value ≡ false → shapeJudged windows shape address value ≡ unitsJudged windows right.Set unit address (sizeOf unit)
+  unfolding pick
+  shape-fits w = rw (known, w, and-false)
+
+  pub shape-whole : field ≡ false → shapeJudged windows shape address value ≡ unitsJudged windows right.Set unit address (sizeOf unit)
+  unfolding pick
+  shape-whole f = rw (known, f)
+
 module _ (windows : List Window) (address : ℕ) where
   pub entry-unaligned : (address % 4 ≡ 0 → ⊥) → entryJudged windows address ≡ Refused refusal.Entry
   unfolding entryJudged
@@ -58,6 +73,7 @@ module _ (windows : List Window) (address : ℕ) where
 -- what holds of each refusal that a judgement may give
 pub record EachRefusal (P : Refusal → Type 0) : Type 0 where
   pub type-word : P refusal.TypeWord
+  pub too-wide : P refusal.TooWide
   pub unaligned : P refusal.Unaligned
   pub range : P refusal.Range
   pub entry : P refusal.Entry
@@ -93,9 +109,13 @@ module _ (P : Refusal → Type 0) (each : EachRefusal P) where
     unfolding fillJudged
     fill-passes address size kind = type-passes address size (unitOf kind)
 
-    pub shape-passes : (shape : Shape) (address : ℕ) → Passes P (shapeJudged windows shape address)
-    shape-passes Wrong address = each .type-word
-    shape-passes (Bits unit start width) address = units-pass right.Set unit address (sizeOf unit)
+    shape-passes : (shape : Shape) (address value : ℕ) → Passes P (shapeJudged windows shape address value)
+    shape-passes Wrong address value = each .type-word
+    shape-passes (Bits unit start width field) address value =
+        of-choice (Passes P) _ (λ e. each .too-wide) (λ e. units-pass right.Set unit address (sizeOf unit))
+
+    pub setting-passes : (word address value : ℕ) → Passes P (settingJudged windows word address value)
+    setting-passes word address value = shape-passes (shapeOf word) address value
 
     pub entry-passes : (address : ℕ) → Passes P (entryJudged windows address)
     unfolding entryJudged

@@ -1,6 +1,6 @@
--- What a command does once its words are known, in either mode (01, "Commands").
+-- What a command does once its words are known, in either mode (01, "Commands", as the requests of 02 amend it).
 use Prim.Native.Nat.{ℕ, zero, suc, _+_, _-_, _*_, _/_, _%_, _^_}
-use mathlib.Core.Bool.{Bool, not, _&&_}
+use mathlib.Core.Bool.{Bool, true, false, not, _&&_}
 use mathlib.Core.List.{List, [], _∷_}
 use lib.Dec.{leb, ltb, eqb}
 use lib.ListN.{length, getD, take, drop}
@@ -125,37 +125,50 @@ startOf word = byte word 1
 abbrev pub stopOf : ℕ → ℕ
 stopOf word = byte word 2
 
--- a field of a word needs START ≤ STOP ≤ 31, and has STOP - START + 1 bits
-unfoldable pub fieldShape : ℕ → ℕ → Shape
-fieldShape start stop = pick (leb start stop && leb stop 31) (Bits Four start (stop - start + 1)) Wrong
+-- how many bits a field has
+abbrev pub widthOf : ℕ → ℕ → ℕ
+widthOf start stop = stop - start + 1
 
--- which bits of which unit it sets: of a unit all, of kinds 3 and 4 a field
+-- a field of a word needs START ≤ STOP ≤ 31
+unfoldable pub fieldShape : ℕ → ℕ → Shape
+fieldShape start stop = pick (leb start stop && leb stop 31) (Bits Four start (widthOf start stop) true) Wrong
+
+-- which bits of which unit it sets, and whether they are a field: of a unit all, of kinds 3 and 4 a field
 abbrev pub typeShape : ℕ → UnitType → Shape
-typeShape word (Of unit) = Bits unit 0 (8 * sizeOf unit)
+typeShape word (Of unit) = Bits unit 0 (8 * sizeOf unit) false
 typeShape word Other = pick (leb (byte word 0) 4) (fieldShape (startOf word) (stopOf word)) Wrong
 
 -- bits 24-31 are zero
 unfoldable pub shapeOf : ℕ → Shape
 shapeOf word = pick (not (eqb (byte word 3) 0)) Wrong (typeShape word (unitOf (byte word 0)))
 
--- 8, then 9 and 7 of the unit at the address; needs set right
-abbrev pub shapeJudged : List Window → Shape → ℕ → Judged
-shapeJudged windows Wrong address = Refused refusal.TypeWord
-shapeJudged windows (Bits unit start width) address = unitsJudged windows right.Set unit address (sizeOf unit)
+-- has a value a bit at or above a width?
+unfoldable pub tooWide : ℕ → ℕ → Bool
+tooWide width value = leb (2 ^ width) value
+
+-- 8, of a field 16 where the data are too wide, then 9 and 7 of the unit at the address; needs set right
+abbrev pub shapeJudged : List Window → Shape → ℕ → ℕ → Judged
+shapeJudged windows Wrong address value = Refused refusal.TypeWord
+shapeJudged windows (Bits unit start width field) address value =
+    pick (field && tooWide width value) (Refused refusal.TooWide) (unitsJudged windows right.Set unit address (sizeOf unit))
+
+-- how Boot Table is judged, by its type word
+abbrev pub settingJudged : List Window → ℕ → ℕ → ℕ → Judged
+settingJudged windows word address value = shapeJudged windows (shapeOf word) address value
 
 -- the bits of the shape become the low bits of the data, all other bits are kept
 abbrev pub shapeSet : List ℕ → ℕ → Shape → ℕ → List ℕ
 shapeSet memory place Wrong value = memory
-shapeSet memory place (Bits unit start width) value = fieldWritten memory place unit start width value
+shapeSet memory place (Bits unit start width field) value = fieldWritten memory place unit start width value
 
 -- Boot Table: event wait; it feeds nothing
-unfoldable pub settingDone : List Window → ℕ → ℕ → ℕ → ℕ → Done
-settingDone windows register word address delay =
-    doneIf (shapeJudged windows (shapeOf word) address) register (event.Wait delay) register
+unfoldable pub settingDone : List Window → ℕ → ℕ → ℕ → ℕ → ℕ → Done
+settingDone windows register word address value delay =
+    doneIf (settingJudged windows word address value) register (event.Wait delay) register
 
 unfoldable pub settingMemory : List Window → List ℕ → ℕ → ℕ → ℕ → List ℕ
 settingMemory windows memory word address value =
-    memoryIf (shapeJudged windows (shapeOf word) address) (λ place. shapeSet memory place (shapeOf word) value) memory
+    memoryIf (settingJudged windows word address value) (λ place. shapeSet memory place (shapeOf word) value) memory
 
 -- an entry address: 10 where it is not a multiple of 4, or not in an entry window
 unfoldable pub entryJudged : List Window → ℕ → Judged

@@ -1,5 +1,6 @@
 // What a command does once its words are known, in either mode: judged first, then done. A refused command changes nothing.
 ghost use mathlib.Core.Path.{_≡_};
+ghost use mathlib.Core.Bool.{false};
 ghost use mathlib.Core.List.{[], _∷_};
 ghost use Prim.Native.Nat.{ℕ, _+_, _*_, _/_, _%_, _≤_, min};
 ghost use lib.ListN.{length};
@@ -24,6 +25,7 @@ ghost use Rattle.commands.specs.Commands.{
   fieldShape,
   typeShape,
   shapeOf,
+  tooWide,
   shapeJudged,
   shapeSet,
   settingDone,
@@ -58,9 +60,9 @@ pub enum UnitType {
     Other,
 }
 
-// Which bits of which unit a Boot Table command sets: a unit, its first bit and how many.
+// Which bits of which unit a Boot Table command sets: a unit, its first bit, how many, and whether they are a field.
 pub enum Shape {
-    Bits(Unit, u32, u32),
+    Bits(Unit, u32, u32, bool),
     Wrong,
 }
 
@@ -317,14 +319,14 @@ fn field_shape(start: u32, stop: u32) -> Shape
     if 31 < stop {
         return Shape::Wrong;
     }
-    Shape::Bits(Unit::Four, start, stop - start + 1)
+    Shape::Bits(Unit::Four, start, stop - start + 1, true)
 }
 
 // All bits of a unit.
 fn whole(unit: Unit) -> Shape
-    ensures { λ r. ⌜ r ≡ Shape.Bits unit 0 (8 * sizeOf unit) ⌝ }
+    ensures { λ r. ⌜ r ≡ Shape.Bits unit 0 (8 * sizeOf unit) false ⌝ }
 {
-    Shape::Bits(unit, 0, 8 * unit_bytes(unit))
+    Shape::Bits(unit, 0, 8 * unit_bytes(unit), false)
 }
 
 // Which bits a type word names, by its type.
@@ -355,18 +357,27 @@ fn shape_of(word: u32) -> Shape
     type_shape(word, unit_of(words::byte_of(word, 0) as u32))
 }
 
-fn judge_shape(windows: [Window; 8], shape: Shape, address: u32) -> Judged
-    ensures { λ r. ⌜ r ≡ shapeJudged windows shape address ⌝ }
+// Has a value a bit at or above a width?
+fn too_wide(width: u32, value: u32) -> bool
+    ensures { λ r. ⌜ r ≡ tooWide width value ⌝ }
+{
+    if width < 32 {
+        return value >= 1 << width;
+    }
+    false
+}
+
+fn judge_shape(windows: [Window; 8], shape: Shape, address: u32, value: u32) -> Judged
+    ensures { λ r. ⌜ r ≡ shapeJudged windows shape address value ⌝ }
 {
     match shape {
         Shape::Wrong => Judged::Refused(Refusal::TypeWord),
-        Shape::Bits(unit, _, _) => judge_units(
-            windows,
-            Right::Set,
-            unit,
-            address,
-            unit_bytes(unit),
-        ),
+        Shape::Bits(unit, _, width, field) => {
+            if field && too_wide(width, value) {
+                return Judged::Refused(Refusal::TooWide);
+            }
+            judge_units(windows, Right::Set, unit, address, unit_bytes(unit))
+        }
     }
 }
 
@@ -376,7 +387,7 @@ fn set_shape(memory: &mut [u8], judged: Judged, shape: Shape, value: u32)
 {
     match judged {
         Judged::Granted(place) => match shape {
-            Shape::Bits(unit, start, width) => {
+            Shape::Bits(unit, start, width, _) => {
                 words::write_field(memory, place, unit, start, width, value);
             }
             Shape::Wrong => {}
@@ -395,11 +406,11 @@ pub fn boot_table(
     value: u32,
     delay: u32,
 ) -> Done
-    ensures { λ r. ⌜ r ≡ settingDone windows register word address delay ⌝ }
+    ensures { λ r. ⌜ r ≡ settingDone windows register word address value delay ⌝ }
     ensures { λ _. ⌜ now (memory .exit) ≡ settingMemory windows (now (memory .entry)) word address value ⌝ }
 {
     let shape = shape_of(word);
-    let judged = judge_shape(windows, shape, address);
+    let judged = judge_shape(windows, shape, address, value);
     set_shape(memory, judged, shape, value);
     answer(judged, register, Event::Wait(delay), register)
 }

@@ -25,7 +25,7 @@ use Rattle.windows.specs.declared.Window.{Window}
 use Rattle.windows.proofs.Laws.{placed-inside}
 use Rattle.words.proofs.Choice.{both, of-choice}
 use Rattle.script.specs.declared.Refusal.{Refusal}
-use Rattle.commands.specs.Commands.{placed, rangeJudged, loadJudged, loaded, unitOf, unitsJudged, typeJudged, fillJudged, filled, typeFilled, fillMemory, startOf, stopOf, fieldShape, typeShape, shapeOf, shapeJudged, shapeSet, settingMemory}
+use Rattle.commands.specs.Commands.{placed, rangeJudged, loadJudged, loaded, unitOf, unitsJudged, typeJudged, fillJudged, filled, typeFilled, fillMemory, startOf, stopOf, fieldShape, typeShape, shapeOf, tooWide, shapeJudged, settingJudged, shapeSet, settingMemory}
 use Rattle.commands.specs.declared.Judged.{Judged}
 use Rattle.commands.specs.declared.Judged.the-variants.{Granted, Refused}
 use Rattle.commands.specs.declared.Shape.{Shape}
@@ -48,11 +48,11 @@ unfolding filled
 fill-does m place size unit pattern = put-does m place size _
 
 -- bits of a unit written, where they lie in the unit and the unit in the memory
-field-does : (m : List ℕ) (place : ℕ) (unit : UnitOf) (start width value : ℕ)
+field-does : (m : List ℕ) (place : ℕ) (unit : UnitOf) (start width : ℕ) (field : Bool) (value : ℕ)
     → start + width ≤ 8 * sizeOf unit → place + sizeOf unit ≤ length m
-    → Does (settingEffect place (Bits unit start width) value) m (fieldWritten m place unit start width value)
-field-does m place unit start width value lie fit =
-    subst (Does (settingEffect place (Bits unit start width) value) m) (field-done m place unit start width value fit lie .1)
+    → Does (settingEffect place (Bits unit start width field) value) m (fieldWritten m place unit start width value)
+field-does m place unit start width field value lie fit =
+    subst (Does (settingEffect place (Bits unit start width field) value) m) (field-done m place unit start width value fit lie .1)
     (record {
       same-length = length-put m place (sizeOf unit) _;
       each-bit = λ p h. bit-written m place (sizeOf unit) start width value p fit lie h;
@@ -61,7 +61,7 @@ field-does m place unit start width value lie fit =
 -- the bits of a shape lie in its unit
 abbrev Lies : Shape → Type 0
 Lies Wrong = Unit {0}
-Lies (Bits unit start width) = start + width ≤ 8 * sizeOf unit
+Lies (Bits unit start width field) = start + width ≤ 8 * sizeOf unit
 
 field-lies : (start stop : ℕ) → Lies (fieldShape start stop)
 unfolding fieldShape
@@ -80,14 +80,15 @@ every-shape-lies : (word : ℕ) → Lies (shapeOf word)
 unfolding shapeOf
 every-shape-lies word = of-choice Lies _ (λ e. tt) (λ e. type-lies word (unitOf (byte word 0)))
 
-pub shape-lies : (word : ℕ) {unit : UnitOf} {start width : ℕ} → shapeOf word ≡ Bits unit start width → start + width ≤ 8 * sizeOf unit
+pub shape-lies : (word : ℕ) {unit : UnitOf} {start width : ℕ} {field : Bool} → shapeOf word ≡ Bits unit start width field
+    → start + width ≤ 8 * sizeOf unit
 shape-lies word e = subst Lies e (every-shape-lies word)
 
-pub setting-does : (m : List ℕ) (place word value : ℕ) {unit : UnitOf} {start width : ℕ}
-    → shapeOf word ≡ Bits unit start width → place + sizeOf unit ≤ length m
+pub setting-does : (m : List ℕ) (place word value : ℕ) {unit : UnitOf} {start width : ℕ} {field : Bool}
+    → shapeOf word ≡ Bits unit start width field → place + sizeOf unit ≤ length m
     → Does (settingEffect place (shapeOf word) value) m (shapeSet m place (shapeOf word) value)
-setting-does m place word value {unit} {start} {width} e fit =
-    rw e (field-does m place unit start width value (shape-lies word e) fit)
+setting-does m place word value {unit} {start} {width} {field} e fit =
+    rw e (field-does m place unit start width field value (shape-lies word e) fit)
 
 -- a refused command leaves memory as it was
 module _ (windows : List Window) (m : List ℕ) where
@@ -96,7 +97,7 @@ module _ (windows : List Window) (m : List ℕ) where
   unfolding fillMemory
   fill-refused address size kind pattern e = rw e
 
-  pub setting-refused : (word address value : ℕ) {q : Refusal} → shapeJudged windows (shapeOf word) address ≡ Refused q
+  pub setting-refused : (word address value : ℕ) {q : Refusal} → settingJudged windows word address value ≡ Refused q
       → settingMemory windows m word address value ≡ m
   unfolding settingMemory
   setting-refused word address value e = rw e
@@ -146,21 +147,21 @@ module _ (windows : List Window) (m : List ℕ) (lent : length m ≡ sumOf windo
 
   -- a shape that is granted is not wrong, and its unit lies inside the memory
   shape-granted : (shape : Shape) → Lies shape → (address value : ℕ) {place : ℕ}
-      → shapeJudged windows shape address ≡ Granted place
+      → shapeJudged windows shape address value ≡ Granted place
       → DoesInside (settingEffect place shape value) m (shapeSet m place shape value)
   shape-granted Wrong lie address value e = absurd (let z : _≡_ {A = ℕ} 0 1 = cc in omega arith)
-  shape-granted (Bits unit start width) lie address value {place} e =
-      let fit : place + sizeOf unit ≤ length m = units-inside _ unit address (sizeOf unit) e in
-      record { does = field-does m place unit start width value lie fit; lies = omega arith }
+  shape-granted (Bits unit start width field) lie address value {place} e =
+      let fit : place + sizeOf unit ≤ length m = units-inside _ unit address (sizeOf unit) (past-refusal (field && tooWide width value) _ e) in
+      record { does = field-does m place unit start width field value lie fit; lies = omega arith }
 
-  pub setting-granted : (word address value : ℕ) {place : ℕ} → shapeJudged windows (shapeOf word) address ≡ Granted place
+  pub setting-granted : (word address value : ℕ) {place : ℕ} → settingJudged windows word address value ≡ Granted place
       → DoesInside (settingEffect place (shapeOf word) value) m (settingMemory windows m word address value)
   unfolding settingMemory
   setting-granted word address value e =
       rw e (shape-granted (shapeOf word) (every-shape-lies word) address value e)
 
 -- a number below a power of two is told by its bits below it
-bits-tell : (k a b : ℕ) → a < 2 ^ k → b < 2 ^ k → ((j : ℕ) → j < k → bit a j ≡ bit b j) → a ≡ b
+pub bits-tell : (k a b : ℕ) → a < 2 ^ k → b < 2 ^ k → ((j : ℕ) → j < k → bit a j ≡ bit b j) → a ≡ b
 unfolding bit
 bits-tell zero a b h l same = omega arith
 bits-tell (suc k) a b h l same =

@@ -47,7 +47,7 @@ fillEffect place size (Of unit) pattern = bytesEffect place size (λ i. byte pat
 -- Boot Table writes the bits of its shape, and no other bit of the unit
 abbrev pub settingEffect : ℕ → Shape → ℕ → Effect
 settingEffect place Wrong value = noEffect
-settingEffect place (Bits unit start width) value = record { first = 8 * place + start; count = width; gives = bit value }
+settingEffect place (Bits unit start width field) value = record { first = 8 * place + start; count = width; gives = bit value }
 
 -- memory before and after an effect: the bits written are those given, all other bits are kept
 pub record Does (e : Effect) (before after : List ℕ) : Type 0 where

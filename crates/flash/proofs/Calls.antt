@@ -173,7 +173,7 @@ module _ (s : Session) (image : List ℕ) where
           after-call 5 (λ z. omega arith) (fill-answers _ _ _ _ _ _ _) (read known 5 (omega arith) (omega arith))
       performed-call command.BootTable n row known h =
           let four = eqb-true n 4 row in
-          after-call 5 (λ z. omega arith) (setting-answers _ _ _ _ _) (read known 5 (omega arith) (omega arith))
+          after-call 5 (λ z. omega arith) (setting-answers _ _ _ _ _ _) (read known 5 (omega arith) (omega arith))
       performed-call command.Enable n row known h =
           let none = eqb-true n 0 row in
           goes-on (λ z. omega arith) (read known 1 (omega arith) (omega arith)) (omega arith)

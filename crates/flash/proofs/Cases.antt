@@ -78,7 +78,7 @@ module _ (s : Session) (m image : List ℕ) where
 
   pub setting-read : {word address value delay : ℕ} → word ≡ argument s image 0 → address ≡ argument s image 1
       → value ≡ argument s image 2 → delay ≡ argument s image 3
-      → after s (settingDone (s .windows) (s .register) word address delay) 5 leaving settingMemory (s .windows) m word address value
+      → after s (settingDone (s .windows) (s .register) word address value delay) 5 leaving settingMemory (s .windows) m word address value
       ≡ performed command.BootTable s m image
   setting-read p q k v = rw (p, q, k, v)
 

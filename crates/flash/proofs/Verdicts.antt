@@ -14,12 +14,11 @@ use Rattle.script.specs.declared.Event.{Event}
 use Rattle.script.specs.declared.Event.the-variants as event
 use Rattle.script.specs.declared.Refusal.{Refusal}
 use Rattle.script.specs.declared.Refusal.the-variants as refusal
-use Rattle.commands.specs.Commands.{multiple, doneIf, loadJudged, fillJudged, fillDone, shapeOf, shapeJudged, settingDone, entryJudged, closeDone, target, soughtFrom}
-use Rattle.commands.proofs.Judging.{EachRefusal, Passes, load-passes, fill-passes, shape-passes, entry-passes}
+use Rattle.commands.specs.Commands.{multiple, doneIf, loadJudged, fillJudged, fillDone, settingJudged, settingDone, entryJudged, closeDone, target, soughtFrom}
+use Rattle.commands.proofs.Judging.{EachRefusal, Passes, load-passes, fill-passes, setting-passes, entry-passes}
 use Rattle.commands.specs.declared.Done.{Done}
 use Rattle.commands.specs.declared.Judged.{Judged}
 use Rattle.commands.specs.declared.Judged.the-variants.{Granted, Refused}
-use Rattle.commands.specs.declared.Shape.{Shape}
 use Rattle.commands.specs.declared.Sought.{Sought}
 use Rattle.commands.specs.declared.Sought.the-variants as sought
 use Rattle.flash.specs.Calls.{spares}
@@ -44,6 +43,7 @@ every-refusal : EachRefusal Ending
 every-refusal =
     record {
       type-word = ends refusal.TypeWord refl;
+      too-wide = ends refusal.TooWide refl;
       unaligned = ends refusal.Unaligned refl;
       range = ends refusal.Range refl;
       entry = ends refusal.Entry refl;
@@ -60,8 +60,8 @@ module _ (windows : List Window) where
   fill-judges : (address size kind : ℕ) → Judges (fillJudged windows address size kind)
   fill-judges address size kind = passed-judges _ (fill-passes Ending every-refusal windows address size kind)
 
-  shape-judges : (shape : Shape) (address : ℕ) → Judges (shapeJudged windows shape address)
-  shape-judges shape address = passed-judges _ (shape-passes Ending every-refusal windows shape address)
+  setting-judges : (word address value : ℕ) → Judges (settingJudged windows word address value)
+  setting-judges word address value = passed-judges _ (setting-passes Ending every-refusal windows word address value)
 
   entry-judges : (address : ℕ) → Judges (entryJudged windows address)
   entry-judges address = passed-judges _ (entry-passes Ending every-refusal windows address)
@@ -80,9 +80,9 @@ module _ (windows : List Window) (register : ℕ) where
   unfolding fillDone
   fill-answers on address size kind pattern = judged-answers _ _ event.Nothing (fill-judges windows address size kind)
 
-  pub setting-answers : (word address delay : ℕ) → Answers 1 (settingDone windows register word address delay)
+  pub setting-answers : (word address value delay : ℕ) → Answers 1 (settingDone windows register word address value delay)
   unfolding settingDone
-  setting-answers word address delay = judged-answers _ _ (event.Wait delay) (shape-judges windows (shapeOf word) address)
+  setting-answers word address value delay = judged-answers _ _ (event.Wait delay) (setting-judges windows word address value)
 
   pub close-answers : (address : ℕ) → Answers 3 (closeDone windows register address)
   unfolding closeDone

@@ -80,7 +80,7 @@ performed command.Fill s m image =
     after s (fillDone (s .windows) (s .on) (s .register) (argument s image 0) (argument s image 1) (argument s image 2) (argument s image 3)) 5
     leaving fillMemory (s .windows) m (argument s image 0) (argument s image 1) (argument s image 2) (argument s image 3)
 performed command.BootTable s m image =
-    after s (settingDone (s .windows) (s .register) (argument s image 0) (argument s image 1) (argument s image 3)) 5
+    after s (settingDone (s .windows) (s .register) (argument s image 0) (argument s image 1) (argument s image 2) (argument s image 3)) 5
     leaving settingMemory (s .windows) m (argument s image 0) (argument s image 1) (argument s image 2)
 performed command.Enable s m image = accepted s Nothing (switchOn s) leaving m
 performed command.Disable s m image = accepted s Nothing (switchOff s) leaving m

@@ -18,8 +18,8 @@ use Rattle.script.specs.declared.Command.the-variants as command
 use Rattle.script.specs.declared.Event.{Event}
 use Rattle.script.specs.declared.Refusal.{Refusal}
 use Rattle.script.specs.declared.Refusal.the-variants as refusal
-use Rattle.commands.specs.Commands.{doneIf, fillDone, shapeOf, settingDone}
-use Rattle.commands.proofs.Judging.{EachRefusal, Passes, load-passes, fill-passes, shape-passes}
+use Rattle.commands.specs.Commands.{doneIf, fillDone, settingDone}
+use Rattle.commands.proofs.Judging.{EachRefusal, Passes, load-passes, fill-passes, setting-passes}
 use Rattle.commands.specs.declared.Judged.{Judged}
 use Rattle.commands.specs.declared.Judged.the-variants.{Granted, Refused}
 use Rattle.sent.specs.Machine.{after, loadBegun, wordStep}
@@ -45,6 +45,7 @@ numbers : EachRefusal (λ (q : Refusal). numberOf q ≢ 0)
 numbers =
     record {
       type-word = eqb-false 8 0 refl;
+      too-wide = eqb-false 16 0 refl;
       unaligned = eqb-false 9 0 refl;
       range = eqb-false 7 0 refl;
       entry = eqb-false 10 0 refl;
@@ -53,7 +54,7 @@ numbers =
 judged-numbered : (windows : List Window) (c : Piece) → Numbered (judgedOf windows c)
 judged-numbered windows (load address bytes pads) = load-passes _ numbers windows address (length bytes)
 judged-numbered windows (fill address size kind pattern) = fill-passes _ numbers windows address size kind
-judged-numbered windows (setting word address value delay) = shape-passes _ numbers windows (shapeOf word) address
+judged-numbered windows (setting word address value delay) = setting-passes _ numbers windows word address value
 
 -- a load, or a command done at its last word, that is not refused
 none-is-none : (q : Refusal) → q ≡ refusal.None → numberOf q ≢ 0 → ⊥

@@ -16,7 +16,7 @@ use Rattle.checksum.specs.Checksum as checksum
 use Rattle.windows.specs.Window.{hasRight, inside, grantsRange, placeFrom, placeOf, sumOf}
 use Rattle.windows.specs.Map.{soundWindow, allSound, rising, goodMap, keptOf}
 use Rattle.script.specs.Opcodes.{rows, rowServes, foundIn, lookedUp}
-use Rattle.commands.specs.Commands.{multiple, rangeJudged, loadJudged, loaded, unitOf, unitsJudged, fieldShape, shapeOf, settingDone, settingMemory}
+use Rattle.commands.specs.Commands.{multiple, rangeJudged, loadJudged, loaded, unitOf, unitsJudged, fieldShape, shapeOf, tooWide, settingDone, settingMemory}
 use Rattle.sent.specs.Line.{pushed, carried, isStart, byteStep}
 use Rattle.sent.specs.Machine.{after, awaited, acknowledging, wordStep}
 use Rattle.sent.specs.Opening.{openedBy}
@@ -78,7 +78,7 @@ record Computed : Type 0 where
 computed : Computed
 unfolding bit join withField within byte number bytesAt put fits fieldFits fieldWritten pick checksum.shifted checksum.fedBit checksum.fed
     checksum.fedWords hasRight inside grantsRange placeFrom placeOf sumOf soundWindow allSound rising goodMap keptOf rows rowServes foundIn
-    lookedUp multiple rangeJudged loadJudged loaded unitOf unitsJudged fieldShape shapeOf settingDone settingMemory pushed carried isStart byteStep
+    lookedUp multiple rangeJudged loadJudged loaded unitOf unitsJudged fieldShape shapeOf tooWide settingDone settingMemory pushed carried isStart byteStep
     after awaited acknowledging wordStep openedBy start fed bytesOf allBytes answers middle started short allSmall effectOf someWrites
 computed = record {
   answered = refl;

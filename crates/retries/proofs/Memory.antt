@@ -11,7 +11,7 @@ use Rattle.words.specs.Bytes.{byte, put, sizeOf, fieldWritten}
 use Rattle.words.proofs.Choice.{both, of-choice}
 use Rattle.words.proofs.Puts.{length-put}
 use Rattle.windows.specs.declared.Window.{Window}
-use Rattle.commands.specs.Commands.{memoryIf, loadJudged, loaded, unitOf, fillJudged, filled, typeFilled, fillMemory, shapeOf, shapeJudged, shapeSet, settingMemory}
+use Rattle.commands.specs.Commands.{memoryIf, loadJudged, loaded, unitOf, fillJudged, filled, typeFilled, fillMemory, shapeOf, settingJudged, shapeSet, settingMemory}
 use Rattle.commands.specs.declared.Judged.{Judged}
 use Rattle.commands.specs.declared.Judged.the-variants.{Granted, Refused}
 use Rattle.commands.specs.declared.Shape.{Shape}
@@ -72,7 +72,7 @@ filled-over m place size (Of unit) pattern = put-over m place size _ (λ i. byte
 set-shape-over : (m : List ℕ) (place : ℕ) (shape : Shape) (value : ℕ) → Overwritten m (shapeSet m place shape value)
 unfolding fieldWritten
 set-shape-over m place Wrong value = untouched
-set-shape-over m place (Bits unit start width) value =
+set-shape-over m place (Bits unit start width field) value =
     of-choice (Overwritten m) _ (λ e. put-over m place (sizeOf unit) _ (λ i. byte-small _ i)) (λ e. untouched)
 
 -- so of a command, granted or refused
@@ -92,7 +92,7 @@ fill-over windows m address size kind pattern =
 pub setting-over : (windows : List Window) (m : List ℕ) (word address value : ℕ) → Overwritten m (settingMemory windows m word address value)
 unfolding settingMemory
 setting-over windows m word address value =
-    if-over m (shapeJudged windows (shapeOf word) address) _ (λ place. set-shape-over m place (shapeOf word) value)
+    if-over m (settingJudged windows word address value) _ (λ place. set-shape-over m place (shapeOf word) value)
 
 -- the bytes of a data word
 take-bytes : (n : ℕ) (bs : List ℕ) → AreBytes bs → AreBytes (take n bs)

@@ -6,7 +6,7 @@ use mathlib.Core.Path.{_≡_}
 use lib.ListN.{length, getD}
 use Rattle.words.specs.Bytes.{byte}
 use Rattle.windows.specs.declared.Window.{Window}
-use Rattle.commands.specs.Commands.{loadJudged, unitOf, fillJudged, shapeOf, shapeJudged}
+use Rattle.commands.specs.Commands.{loadJudged, unitOf, fillJudged, shapeOf, settingJudged}
 use Rattle.commands.specs.declared.Judged.{Judged}
 use Rattle.commands.specs.declared.Judged.the-variants.{Granted, Refused}
 use Rattle.effects.specs.Effects.{Effect, writes, noEffect, loadEffect, fillEffect, settingEffect}
@@ -70,7 +70,7 @@ AllSendable (c ∷ cs) = Sendable c × AllSendable cs
 abbrev pub judgedOf : List Window → Piece → Judged
 judgedOf windows (load address bytes pads) = loadJudged windows address (length bytes)
 judgedOf windows (fill address size kind pattern) = fillJudged windows address size kind
-judgedOf windows (setting word address value delay) = shapeJudged windows (shapeOf word) address
+judgedOf windows (setting word address value delay) = settingJudged windows word address value
 
 -- the bits that a command writes from a place on: of a load or fill those of its range, of a setting those of its unit or field
 abbrev pub effectAt : Piece → ℕ → Effect

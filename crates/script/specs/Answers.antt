@@ -5,7 +5,7 @@ use Rattle.script.specs.declared.Refusal.the-variants as refusal
 use Rattle.script.specs.declared.Event.{Event}
 use Rattle.script.specs.declared.Event.the-variants as event
 
--- a refusal's number in document 01; 0 where nothing is refused
+-- a refusal's number in documents 01 and 02; 0 where nothing is refused
 abbrev pub numberOf : Refusal → ℕ
 numberOf refusal.None = 0
 numberOf refusal.Map = 1
@@ -22,6 +22,7 @@ numberOf refusal.Checksum = 11
 numberOf refusal.Seek = 12
 numberOf refusal.Ended = 14
 numberOf refusal.Retired = 15
+numberOf refusal.TooWide = 16
 numberOf refusal.Call = 19
 
 -- an event's kind: 0 nothing, 1 wait, 3 enter an address; 2 was a call, and stays unused

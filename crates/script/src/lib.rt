@@ -21,6 +21,7 @@ pub enum Refusal {
     Seek,
     Ended,
     Retired,
+    TooWide,
     Call,
 }
 
@@ -45,6 +46,7 @@ impl Refusal {
             Refusal::Seek => 12,
             Refusal::Ended => 14,
             Refusal::Retired => 15,
+            Refusal::TooWide => 16,
             Refusal::Call => 19,
         }
     }

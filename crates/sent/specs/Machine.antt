@@ -107,7 +107,7 @@ performed command.Fill k m kept word =
     after k (fillDone (k .windows) (k .on) (k .tally .register) (kept .first) (kept .second) (kept .third) word)
     leaving fillMemory (k .windows) m (kept .first) (kept .second) (kept .third) word
 performed command.BootTable k m kept word =
-    after k (settingDone (k .windows) (k .tally .register) (kept .first) (kept .second) word)
+    after k (settingDone (k .windows) (k .tally .register) (kept .first) (kept .second) (kept .third) word)
     leaving settingMemory (k .windows) m (kept .first) (kept .second) (kept .third)
 performed command.Enable k m kept word = quiet (changed k (k .ended) true (k .begun) 0 phase.Opcode) leaving m
 performed command.Disable k m kept word = quiet (changed k (k .ended) false (k .begun) (k .tally .register) phase.Opcode) leaving m

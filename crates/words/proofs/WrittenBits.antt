@@ -72,7 +72,7 @@ bit-put m at n f p l =
     (λ j e. bit-kept m at n f p (λ j k. omega arith) ∙ sym (passed _ _ _ (above _ _ p (omega arith))))
 
 -- a bit of a unit read from a list
-bit-unit : (m : List ℕ) (at u k : ℕ) → k < 8 * u → bit (number (bytesAt m at u)) k ≡ bitAt m (8 * at + k)
+pub bit-unit : (m : List ℕ) (at u k : ℕ) → k < 8 * u → bit (number (bytesAt m at u)) k ≡ bitAt m (8 * at + k)
 unfolding bytesAt bitAt
 bit-unit m at u k h =
     let parts : k ≡ 8 * (k / 8) + k % 8 = omega arith in
