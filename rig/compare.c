@@ -1,8 +1,8 @@
 /* Runs the proved loader and the plain one on the same cases, and compares all that they give back.
 
    compare COUNT SEED [FIRST] runs COUNT cases of the seed, from case FIRST on. It ends with status 1 at the
-   first difference, or (unless FIRST is given) when a refusal or a command was not met at all. In flash mode
-   14 can't be met, since a run stops when its session ends. */
+   first difference, or (unless FIRST is given) when a refusal or a command was not met at all, or no command of a
+   kind that writes was accepted over a seam. In flash mode 14 can't be met, since a run stops when its session ends. */
 #include "ais.h"
 #include "cases.h"
 #include "plain_loader.h"
@@ -203,6 +203,16 @@ static void print_tally(const struct tally *tally)
                plain_accepted[PLAIN_FLASH][kind]);
 }
 
+/* Load, Fill and Boot Table have ranges of bytes, and so may lie over a seam; the others never do. */
+static void print_over_seam(void)
+{
+    printf("\naccepted over a seam        sent     flash\n");
+    for (unsigned kind = 0; kind < PLAIN_COMMANDS; kind++)
+        if (plain_command_writes(kind))
+            printf("%-22s%10" PRIu64 "%10" PRIu64 "\n", plain_command_name(kind),
+                   plain_accepted_over_seam[PLAIN_SENT][kind], plain_accepted_over_seam[PLAIN_FLASH][kind]);
+}
+
 static bool all_refusals_met(const struct tally *tally, unsigned mode, const unsigned *refusals, size_t count)
 {
     bool is_met = true;
@@ -222,8 +232,9 @@ static bool all_commands_met(void)
 
     for (unsigned mode = 0; mode < PLAIN_MODES; mode++) {
         for (unsigned kind = 0; kind < PLAIN_COMMANDS; kind++) {
-            if (plain_command_allowed(mode, kind) && plain_accepted[mode][kind] == 0) {
-                printf("%s was never accepted in %s mode\n", plain_command_name(kind),
+            if ((plain_command_allowed(mode, kind) && plain_accepted[mode][kind] == 0) ||
+                (plain_command_writes(kind) && plain_accepted_over_seam[mode][kind] == 0)) {
+                printf("%s was never accepted, or never over a seam, in %s mode\n", plain_command_name(kind),
                        mode == PLAIN_FLASH ? "flash" : "sent");
                 is_met = false;
             }
@@ -289,6 +300,7 @@ int main(int argument_count, char **arguments)
         if (!compare_case(&bench_case, &tally, seed, number))
             return 1;
     print_tally(&tally);
+    print_over_seam();
     printf("\n%" PRIu64 " cases of seed %" PRIu64 " in %.1f seconds, no difference\n", count, seed,
            (double)(clock() - begin) / CLOCKS_PER_SEC);
     if (argument_count <= 3 && !everything_met(&tally)) {

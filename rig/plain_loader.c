@@ -89,6 +89,7 @@ static const struct command_row COMMANDS[PLAIN_COMMANDS] = {
 static const uint32_t RETIRED = 0x58535905;
 
 uint64_t plain_accepted[PLAIN_MODES][PLAIN_COMMANDS];
+uint64_t plain_accepted_over_seam[PLAIN_MODES][PLAIN_COMMANDS];
 
 const char *plain_command_name(unsigned kind)
 {
@@ -98,6 +99,11 @@ const char *plain_command_name(unsigned kind)
 int plain_command_allowed(unsigned mode, unsigned kind)
 {
     return COMMANDS[kind].argument_words[mode] != NOT_ALLOWED;
+}
+
+int plain_command_writes(unsigned kind)
+{
+    return kind == LOAD || kind == FILL || kind == BOOT_TABLE;
 }
 
 /* Finds the command of an opcode in a mode: refused where it is retired, or where there is none. */
@@ -157,22 +163,35 @@ static bool read_map(struct map *map, const uint8_t *bytes, size_t length)
     return map->sum <= MEMORY_LIMIT;
 }
 
-/* Grants a range of addresses, and finds its place in the lent memory; false where no window grants it. */
-static bool find_place(const struct map *map, enum right right, uint32_t address, uint32_t size, size_t *place)
+/* Follows a chain from one window on: each next window begins exactly where the one before ends, and has the right.
+   Gives back how many windows it takes to reach an address, 0 where the chain breaks off before it. */
+static unsigned follow_chain(const struct map *map, enum right right, size_t index, uint64_t reached_address)
+{
+    unsigned taken = 1;
+
+    for (; window_end(&map->windows[index]) < reached_address; index++, taken++) {
+        const struct window *next = &map->windows[index + 1];
+        if (index + 1 == map->count || next->first != window_end(&map->windows[index]) || (next->rights & right) == 0)
+            return 0;
+    }
+    return taken;
+}
+
+/* Grants a range of addresses, and finds its place in the lent memory. Gives back how many windows it lies in, 0 where it
+   is not granted; a range of no byte lies in the one window that holds its address. */
+static unsigned find_place(const struct map *map, enum right right, uint32_t address, uint32_t size, size_t *place)
 {
     size_t window_place = 0;
 
     for (size_t index = 0; index < map->count; index++) {
         const struct window *window = &map->windows[index];
-        uint64_t end = window_end(window);
-        if ((window->rights & right) != 0 && window->first <= address && address < end &&
-            (uint64_t)address + size <= end) {
+        if ((window->rights & right) != 0 && window->first <= address && address < window_end(window)) {
             *place = window_place + (address - window->first);
-            return true;
+            return follow_chain(map, right, index, (uint64_t)address + size);
         }
         window_place += window->length;
     }
-    return false;
+    return 0;
 }
 
 /* ---- What both modes share ---- */
@@ -183,7 +202,22 @@ struct loader {
     uint32_t checksum;
     bool checksum_on;
     bool ended;
+    unsigned windows_taken; /* by the range of the command at hand */
 };
+
+/* Grants a range to the command at hand; false where it is not granted. */
+static bool grant(struct loader *loader, enum right right, uint32_t address, uint32_t size, size_t *place)
+{
+    loader->windows_taken = find_place(&loader->map, right, address, size, place);
+    return loader->windows_taken > 0;
+}
+
+static void count_accepted(struct loader *loader, unsigned mode, enum command command)
+{
+    plain_accepted[mode][command]++;
+    plain_accepted_over_seam[mode][command] += loader->windows_taken > 1;
+    loader->windows_taken = 0;
+}
 
 /* Feeds the low bits of a value to the checksum, highest first, while it is on. */
 static void feed_checksum(struct loader *loader, uint32_t value, unsigned bits)
@@ -229,7 +263,7 @@ static enum refusal fill(struct loader *loader, const uint32_t *arguments)
     unit = (uint32_t)1 << type;
     if (address % unit != 0 || size % unit != 0)
         return NOT_ALIGNED;
-    if (!find_place(&loader->map, LOAD_RIGHT, address, size, &place))
+    if (!grant(loader, LOAD_RIGHT, address, size, &place))
         return NOT_GRANTED;
     for (uint32_t index = 0; index < size; index++)
         loader->memory[place + index] = (uint8_t)(pattern >> (8 * (index & (unit - 1))));
@@ -267,7 +301,7 @@ static enum refusal boot_table(struct loader *loader, const uint32_t *arguments)
     unit = is_field ? 4 : (uint32_t)1 << kind;
     if (address % unit != 0)
         return NOT_ALIGNED;
-    if (!find_place(&loader->map, SET_RIGHT, address, unit, &place))
+    if (!grant(loader, SET_RIGHT, address, unit, &place))
         return NOT_GRANTED;
     if (is_field)
         data = put_field(read_word(loader->memory + place), data, start, stop);
@@ -279,7 +313,7 @@ static enum refusal jump_and_close(struct loader *loader, uint32_t address)
 {
     size_t place;
 
-    if (address % 4 != 0 || !find_place(&loader->map, ENTRY_RIGHT, address, 0, &place))
+    if (address % 4 != 0 || !grant(loader, ENTRY_RIGHT, address, 0, &place))
         return ENTRY_WRONG;
     loader->ended = true;
     return ACCEPTED;
@@ -303,7 +337,7 @@ static enum refusal flash_load(struct flash_run *run, const uint32_t *arguments,
     uint32_t left_over = size % WORD_BYTES, whole = size - left_over;
     size_t padded, place;
 
-    if (!find_place(&run->loader.map, LOAD_RIGHT, address, size, &place))
+    if (!grant(&run->loader, LOAD_RIGHT, address, size, &place))
         return NOT_GRANTED;
     padded = whole + (left_over != 0 ? WORD_BYTES : 0);
     if (run->length - after < padded)
@@ -390,7 +424,7 @@ static enum refusal flash_command(struct flash_run *run)
             run->offset = after;
     }
     if (refusal == ACCEPTED)
-        plain_accepted[PLAIN_FLASH][command]++;
+        count_accepted(&run->loader, PLAIN_FLASH, command);
     return refusal;
 }
 
@@ -458,7 +492,7 @@ static enum refusal sent_load(struct sent_session *session)
 {
     uint32_t address = session->arguments[0], size = session->arguments[1];
 
-    if (!find_place(&session->loader.map, LOAD_RIGHT, address, size, &session->load_place))
+    if (!grant(&session->loader, LOAD_RIGHT, address, size, &session->load_place))
         return NOT_GRANTED;
     feed_checksum(&session->loader, address, 32);
     feed_checksum(&session->loader, size, 32);
@@ -545,7 +579,7 @@ static enum refusal sent_perform_when_complete(struct sent_session *session, str
     session->awaiting = AWAITING_OPCODE;
     refusal = sent_perform(session, reply);
     if (refusal == ACCEPTED)
-        plain_accepted[PLAIN_SENT][session->command]++;
+        count_accepted(&session->loader, PLAIN_SENT, session->command);
     return refusal;
 }
 

@@ -10,10 +10,14 @@ enum { PLAIN_JUMP_AND_CLOSE = 4, PLAIN_COMMANDS = 10 };
 
 /* How many commands of each kind were accepted so far in each mode, and what the kinds are called. */
 extern uint64_t plain_accepted[PLAIN_MODES][PLAIN_COMMANDS];
+extern uint64_t plain_accepted_over_seam[PLAIN_MODES][PLAIN_COMMANDS]; /* those whose range lies in several windows */
 const char *plain_command_name(unsigned kind);
 
 /* Whether a mode allows a kind at all. */
 int plain_command_allowed(unsigned mode, unsigned kind);
+
+/* Whether a kind writes a range of memory: Load, Fill and Boot Table. */
+int plain_command_writes(unsigned kind);
 
 /* The same calls, with the same answers, as the two entries in ais.h. */
 uint64_t plain_sent_session(const uint8_t *map, size_t map_length, uint8_t *memory, size_t memory_length,

@@ -16,7 +16,7 @@
 #include <time.h>
 
 enum { FED_LIMIT = 65536, GREETING_LENGTH = 6, COMMAND_LIMIT = 512, ATTEMPT_LIMIT = 6, LOAD_LIMIT = 40 };
-enum kind { LOAD, FILL, SETTING };
+enum kind { LOAD, FILL, SETTING, KINDS };
 enum setting { BYTE_SETTING, HALF_SETTING, WORD_SETTING, FIELD_SETTING, OTHER_FIELD_SETTING };
 enum beginning { AFTER_START_WORD, AFTER_ENABLE, AFTER_REQUEST, AFTER_START_OVER, BEGINNINGS };
 
@@ -63,6 +63,7 @@ struct tally {
     uint64_t checked;
     uint64_t empty;
     uint64_t with_request;
+    uint64_t over_seam[KINDS]; /* commands of attempts, all of them accepted */
     uint64_t changed;          /* the attempt changed memory */
     uint64_t refused;          /* in the continuation */
     uint64_t uncovered;        /* cases with a bit left out */
@@ -101,6 +102,21 @@ static uint32_t address_of(const struct map *map, size_t offset)
     while (offset >= window->length)
         offset -= (window++)->length;
     return window->first + (uint32_t)offset;
+}
+
+/* Whether the map grants a command's range for a right; the range may lie over seams. */
+static bool is_granted(const struct map *map, uint32_t right, const struct command *command)
+{
+    uint32_t granted = granted_bytes(map, right, command->address);
+
+    return granted > 0 && command->size <= granted;
+}
+
+static bool is_over_seam(const struct map *map, const struct command *command)
+{
+    const struct window *window = window_of(map, command->address);
+
+    return command->size > window->length - (command->address - window->first);
 }
 
 static bool is_field(const struct command *command)
@@ -212,11 +228,11 @@ static void write_commands(struct writer *writer, const struct commands *command
 /* ---- Covering what an attempt wrote ---- */
 
 /* A load of the range, or of a little more on both sides. */
-static void add_wider_load(struct commands *commands, struct random_source *random, const struct window *window,
+static void add_wider_load(struct commands *commands, struct random_source *random, const struct map *map,
                            const struct command *command)
 {
-    uint32_t ahead = command->address - window->first;
-    uint32_t behind = window->length - ahead - command->size;
+    uint32_t ahead = command->address - window_of(map, command->address)->first;
+    uint32_t behind = granted_bytes(map, LOAD_RIGHT, command->address) - command->size;
     uint32_t more = random_below(random, 5), further = random_below(random, 5);
 
     more = more < ahead ? more : ahead;
@@ -256,13 +272,12 @@ static void add_smaller_settings(struct commands *commands, struct random_source
 static void add_cover(struct commands *commands, struct random_source *random, const struct map *map,
                       const struct command *command)
 {
-    const struct window *window = window_of(map, command->address);
-    bool may_load = (window->rights & LOAD_RIGHT) != 0 && command->size <= 200;
-    bool may_set = (window->rights & SET_RIGHT) != 0 && command->size <= 8;
+    bool may_load = is_granted(map, LOAD_RIGHT, command) && command->size <= 200;
+    bool may_set = is_granted(map, SET_RIGHT, command) && command->size <= 8;
     uint32_t drawn = random_below(random, 7);
 
     if (drawn == 0 && may_load)
-        add_wider_load(commands, random, window, command);
+        add_wider_load(commands, random, map, command);
     else if (drawn == 1 && may_load)
         add_two_parts(commands, random, command);
     else if (drawn == 2 && may_load)
@@ -291,11 +306,9 @@ static void shuffle(struct commands *commands, struct random_source *random)
 static void add_other_bits(struct commands *commands, struct random_source *random, const struct map *map,
                            uint32_t address, unsigned bit)
 {
-    const struct window *window = window_of(map, address);
     uint32_t word = address & ~(uint32_t)3, lowest = 8 * (address - word);
 
-    if ((window->rights & SET_RIGHT) == 0 || word < window->first || window->length < 4 ||
-        word - window->first > window->length - 4)
+    if (granted_bytes(map, SET_RIGHT, word) < 4)
         return;
     add_field(commands, random, word, lowest, lowest + bit);
     add_field(commands, random, word, lowest + bit + 1, lowest + 8);
@@ -577,6 +590,10 @@ static bool leaves_no_trace(const struct retry_case *retry_case, struct tally *t
     tally->checked += retry_case->is_checked;
     tally->empty += retry_case->attempted.count == 0;
     tally->with_request += retry_case->has_request;
+    for (unsigned index = 0; index < retry_case->attempted.count; index++) {
+        const struct command *command = &retry_case->attempted.list[index];
+        tally->over_seam[command->kind] += is_over_seam(&retry_case->map, command);
+    }
     tally->changed += memcmp(before.memory, after.memory, length) != 0;
     tally->refused += refusal_of(&with) != 0;
     return same_replies() && expect(memcmp(with.memory, without.memory, length) == 0, "the same memory at the end");
@@ -653,12 +670,15 @@ static bool leaves_the_uncovered_bit(struct retry_case *retry_case, struct tally
 static void print_tally(const struct tally *tally)
 {
     static const char *const names[] = {"the start word", "an Enable", "a Request", "a Start-Over"};
+    static const char *const kinds[] = {"loads", "fills", "settings"};
 
     for (unsigned index = 0; index < BEGINNINGS; index++)
         printf("attempts after %-24s%10" PRIu64 "\n", names[index], tally->beginnings[index]);
     printf("%-39s%10" PRIu64 "\n", "attempts with the checksum on", tally->checked);
     printf("%-39s%10" PRIu64 "\n", "attempts with no command", tally->empty);
     printf("%-39s%10" PRIu64 "\n", "attempts with a Request", tally->with_request);
+    for (unsigned kind = 0; kind < KINDS; kind++)
+        printf("%-9saccepted over a seam           %10" PRIu64 "\n", kinds[kind], tally->over_seam[kind]);
     printf("%-39s%10" PRIu64 "\n", "attempts that changed memory", tally->changed);
     printf("%-39s%10" PRIu64 "\n", "continuations refused", tally->refused);
     printf("%-39s%10" PRIu64 "\n", "cases with a bit left uncovered", tally->uncovered);
@@ -667,13 +687,15 @@ static void print_tally(const struct tally *tally)
     printf("%-39s%10" PRIu64 "\n", "  written as it was, and no difference", tally->uncovered_same);
 }
 
-/* Every beginning, and a difference seen in a tenth of the cases. */
+/* Every beginning, every kind over a seam, and a difference seen in a tenth of the cases. */
 static bool enough_met(const struct tally *tally, uint64_t count)
 {
     bool is_met = tally->empty > 0 && tally->with_request > 0 && tally->uncovered_seen >= count / 10;
 
     for (unsigned index = 0; index < BEGINNINGS; index++)
         is_met &= tally->beginnings[index] > 0;
+    for (unsigned kind = 0; kind < KINDS; kind++)
+        is_met &= tally->over_seam[kind] > 0;
     return is_met;
 }
 

@@ -80,6 +80,22 @@ void encode_map(struct map *map)
     }
 }
 
+static bool holds_with(const struct window *window, uint32_t right, uint64_t address)
+{
+    return (window->rights & right) != 0 && window->first <= address && address - window->first < window->length;
+}
+
+/* Goes up window by window: each takes the address to its end, if it holds it. */
+uint32_t granted_bytes(const struct map *map, uint32_t right, uint32_t address)
+{
+    uint64_t reached = address;
+
+    for (unsigned index = 0; index < map->count; index++)
+        if (holds_with(&map->windows[index], right, reached))
+            reached = (uint64_t)map->windows[index].first + map->windows[index].length;
+    return (uint32_t)(reached - address);
+}
+
 /* ---- The checksum of what was written ---- */
 
 /* The remainder after `bits` further bits, by long division of the 64-bit dividend. */
@@ -261,20 +277,51 @@ static bool choose_range_in(struct writer *writer, const struct window *window, 
     return true;
 }
 
-bool choose_range(struct writer *writer, uint32_t right, uint32_t unit, uint32_t longest, uint32_t *address,
-                  uint32_t *size)
+/* Looks for a range that begins a little before a window's end and goes on past it. */
+static bool choose_range_over(struct writer *writer, const struct window *window, uint32_t right, uint32_t unit,
+                              uint32_t longest, uint32_t *address, uint32_t *size)
 {
-    unsigned begin;
+    struct random_source *random = &writer->random;
+    uint32_t back = 1 + random_below(random, window->length < 12 ? window->length : 12);
+    uint64_t seam = (uint64_t)window->first + window->length;
+    uint32_t least, room;
 
-    if (writer->map->count == 0)
+    *address = (uint32_t)(seam - back) & ~(unit - 1);
+    if (*address < window->first)
         return false;
-    begin = random_below(&writer->random, writer->map->count);
-    for (unsigned tried = 0; tried < writer->map->count; tried++) {
-        const struct window *window = &writer->map->windows[(begin + tried) % writer->map->count];
-        if ((window->rights & right) != 0 && choose_range_in(writer, window, unit, longest, address, size))
+    least = (uint32_t)(seam - *address) / unit + 1;
+    room = granted_bytes(writer->map, right, *address) / unit;
+    room = room < longest / unit ? room : longest / unit;
+    if (room < least)
+        return false;
+    *size = unit * (least + random_below(random, room - least + 1));
+    return true;
+}
+
+/* Tries each window with the right, from any one on: over its end, or inside it. */
+static bool try_windows(struct writer *writer, bool is_over, uint32_t right, uint32_t unit, uint32_t longest,
+                        uint32_t *address, uint32_t *size)
+{
+    unsigned count = writer->map->count, begin = random_below(&writer->random, count);
+
+    for (unsigned tried = 0; tried < count; tried++) {
+        const struct window *window = &writer->map->windows[(begin + tried) % count];
+        if ((window->rights & right) == 0)
+            continue;
+        if (is_over ? choose_range_over(writer, window, right, unit, longest, address, size)
+                    : choose_range_in(writer, window, unit, longest, address, size))
             return true;
     }
     return false;
+}
+
+bool choose_range(struct writer *writer, uint32_t right, uint32_t unit, uint32_t longest, uint32_t *address,
+                  uint32_t *size)
+{
+    bool is_over = chance(&writer->random, 40);
+
+    return (is_over && try_windows(writer, true, right, unit, longest, address, size)) ||
+           try_windows(writer, false, right, unit, longest, address, size);
 }
 
 uint32_t tricky_word(struct random_source *random)

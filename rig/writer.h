@@ -43,6 +43,9 @@ struct map {
 uint64_t map_sum(const struct map *map);
 void encode_map(struct map *map);
 
+/* How many bytes from an address on a good map grants as one range; 0 where no window with the right holds the address. */
+uint32_t granted_bytes(const struct map *map, uint32_t right, uint32_t address);
+
 /* ---- Scripts ---- */
 
 enum {
@@ -104,7 +107,7 @@ void write_ping(struct writer *writer, uint32_t count);
 uint32_t data_width(uint32_t type);
 uint32_t fit_data(uint32_t type, uint32_t data); /* the data, cut to that */
 
-/* Chooses a range of whole units that one window with the right grants; false where there is none. */
+/* Chooses a range of whole units that windows with the right grant, at times over a seam; false where there is none. */
 bool choose_range(struct writer *writer, uint32_t right, uint32_t unit, uint32_t longest, uint32_t *address,
                   uint32_t *size);
 

@@ -1,2 +1,3 @@
 pub mod MarkedExamples
+pub mod TouchingExamples
 pub mod Uniqueness

@@ -47,7 +47,7 @@ word-fits value fit = passed (leb (2 ^ 32) value) _ _ (lt-leb _ _ fit)
 
 -- a statement and those after it
 infixr 4 _and_
-_and_ : {A B : Type 0} → A → B → A × B
+pub _and_ : {A B : Type 0} → A → B → A × B
 a and b = (a, b)
 
 pub marked-hold : AllHold marked

@@ -1,1 +1,2 @@
 pub mod MarkedExamples
+pub mod TouchingExamples

@@ -11,9 +11,10 @@ use Rattle.words.proofs.Choice.{chosen, passed, by-test}
 use Rattle.windows.specs.declared.Window.{Window}
 use Rattle.windows.specs.declared.Right.{Right}
 use Rattle.windows.specs.declared.Place.the-variants.{At, Nowhere}
-use Rattle.windows.specs.Window.{inside, grantsRange, placeFrom, placeOf, sumOf, insideSome}
+use Rattle.windows.specs.Window.{endOf, inside, holdsAddress, chainGrants, placeFrom, placeOf, sumOf, some, insideSome}
 use Rattle.windows.specs.Map.{goodMap, zeroWindow, keptOf}
-use Rattle.windows.proofs.Parts.{granted, good}
+use Rattle.windows.proofs.Chains.{carried, chained, chain-not-held}
+use Rattle.windows.proofs.Parts.{good}
 
 -- a range placed from a base on lies within the sum from there
 record Inside (p n base : ℕ) (ws : List Window) : Type 0 where
@@ -25,10 +26,12 @@ placed-from : (ws : List Window) (right : Right) (a n base p : ℕ)
 unfolding placeFrom sumOf
 placed-from [] right a n base p e = let z : _≡_ {A = ℕ} 0 1 = cc in omega arith
 placed-from (w ∷ ws) right a n base p e =
-    by-test (grantsRange w right a n)
-    (λ held.
-    let g = granted w right a n held in
-    let place : At (base + (a - w .first)) ≡ At p = sym (chosen _ _ _ held) ∙ e in
+    by-test (chainGrants w ws right a n)
+    (λ chain.
+    let c = chained w ws right a n chain in
+    let h = c .address-held in
+    let reach = carried ws right (endOf w) (a + n) (c .others) in
+    let place : At (base + (a - w .first)) ≡ At p = sym (chosen _ _ _ chain) ∙ e in
     let at : base + (a - w .first) ≡ p = cc in
     record { last = omega arith; start = omega arith })
     (λ failed.
@@ -50,19 +53,18 @@ neither : (a b : Bool) → (a || b) ≡ false → (a ≡ false) × (b ≡ false)
 neither true b e = absurd (true≢false e)
 neither false b e = (refl, e)
 
--- an address outside a window is not granted by it
-not-granted : (w : Window) (right : Right) (a n : ℕ) → inside w a ≡ false → grantsRange w right a n ≡ false
-unfolding grantsRange
-not-granted w right a n e = rw (e, and-false)
+-- an address outside a window is not held by it
+not-held : (w : Window) (right : Right) (a : ℕ) → inside w a ≡ false → holdsAddress w right a ≡ false
+not-held w right a e = rw (e, and-false)
 
--- nor by any of several, wherever their bytes begin
+-- nor by a chain of several, wherever their bytes begin
 outside-from : (ws : List Window) (right : Right) (a n base : ℕ)
     → insideSome ws a ≡ false → placeFrom base ws right a n ≡ Nowhere
-unfolding placeFrom insideSome
+unfolding placeFrom some
 outside-from [] right a n base e = refl
 outside-from (w ∷ ws) right a n base e =
     let apart = neither _ _ e in
-    passed _ _ _ (not-granted w right a n (apart .0)) ∙ outside-from ws right a n (base + w .length) (apart .1)
+    passed _ _ _ (chain-not-held w ws right a n (not-held w right a (apart .0))) ∙ outside-from ws right a n (base + w .length) (apart .1)
 
 -- an address inside no window is granted nothing, whatever the size
 pub outside-nowhere : (ws : List Window) (right : Right) (a n : ℕ)

@@ -1,19 +1,20 @@
 -- What each definition over windows says of those that a loop has left: the next one and the rest, or none.
 -- Each follows from the definition's cases.
-use mathlib.Core.Path.{_≡_, ap, sym}
+use mathlib.Core.Path.{_≡_, refl, ap, sym}
 use mathlib.Core.Bool.{true, false}
 use mathlib.Core.List.{List, _∷_, append-nil}
 use Prim.Native.Nat.{ℕ, suc, _+_, _-_, _≤_, _<_}
 use native.Mathlib.Numerals.{add-one}
 use native.Mathlib.Omega.{arith}
-use borrow.Author.Tests.{le-leb, leb-true}
+use borrow.Author.Tests.{le-leb, lt-leb, leb-true, eq-eqb, eqb-true}
 use lib.ListN.{length, getD, take, drop, set, length-take, drop-of-length-le}
 use lib.Seq.{drop-cons, getD-take, take-all, take-suc-set, append-snoc}
 use Rattle.words.proofs.Choice.{chosen, passed, both, refuted}
 use Rattle.windows.specs.declared.Window.{Window}
 use Rattle.windows.specs.declared.Right.{Right}
 use Rattle.windows.specs.declared.Place.the-variants.{At, Nowhere}
-use Rattle.windows.specs.Window.{endOf, grantsRange, placeFrom, sumOf}
+use Rattle.windows.specs.Window.{hasRight, endOf, holdsAddress, carriesOn, chainGrants, placeFrom, sumOf}
+use Rattle.windows.proofs.Chains.{carries-here, chain-here, chain-not-held, chain-broken}
 use Rattle.windows.specs.Map.{soundWindow, allSound, rising, soundAndRising, zeroWindow, keptOf}
 
 -- at the end none is left
@@ -25,6 +26,9 @@ module _ (ws : List Window) (i : ℕ) (h : length ws ≤ i) where
   pub place-none : (right : Right) (a n base : ℕ) → Nowhere ≡ placeFrom base (drop i ws) right a n
   unfolding placeFrom
   place-none right a n base = rw (drop-of-length-le ws h)
+
+  pub carries-none : (right : Right) (from end : ℕ) → from < end → false ≡ carriesOn (drop i ws) right from end
+  carries-none right from end more = rw (drop-of-length-le ws h) (sym (lt-leb _ _ more))
 
   pub rising-none : (from : ℕ) → true ≡ soundAndRising from (drop i ws)
   unfolding allSound rising
@@ -39,17 +43,48 @@ module _ (ws : List Window) (i : ℕ) (h : i < length ws) where
   unfolding sumOf
   sum-next = ap sumOf next
 
-  pub place-here : (right : Right) (a n base : ℕ)
-      → grantsRange (getD ws i zeroWindow) right a n ≡ true
-      → At (base + (a - getD ws i zeroWindow .first)) ≡ placeFrom base (drop i ws) right a n
-  unfolding placeFrom
-  place-here right a n base e = rw next (sym (chosen _ _ _ e))
+  pub carries-next : (right : Right) (from end : ℕ) → from < end → getD ws i zeroWindow .first ≡ from → hasRight (getD ws i zeroWindow) right ≡ true
+      → carriesOn (drop (i + 1) ws) right (endOf (getD ws i zeroWindow)) end ≡ carriesOn (drop i ws) right from end
+  carries-next right from end more touches right-held = rw (next, lt-leb _ _ more, eq-eqb _ _ touches, right-held) refl
 
-  pub place-on : (right : Right) (a n base : ℕ)
-      → grantsRange (getD ws i zeroWindow) right a n ≡ false
-      → placeFrom (base + getD ws i zeroWindow .length) (drop (i + 1) ws) right a n ≡ placeFrom base (drop i ws) right a n
-  unfolding placeFrom
-  place-on right a n base e = rw next (sym (passed _ _ _ e))
+  pub carries-fails : (right : Right) (from end : ℕ) → from < end
+      → (getD ws i zeroWindow .first ≡ from → hasRight (getD ws i zeroWindow) right ≡ true → ⊥)
+      → false ≡ carriesOn (drop i ws) right from end
+  carries-fails right from end more never =
+      refuted _ (λ e.
+      let front = both _ _ (both _ _ (rw (next, lt-leb _ _ more) at e) .0) in
+      never (eqb-true _ _ (front .0)) (front .1))
+
+  module _ (right : Right) (a n base : ℕ) where
+    -- a range is placed by the chain from the next window on, or else by the rest
+    place-here : chainGrants (getD ws i zeroWindow) (drop (i + 1) ws) right a n ≡ true
+        → At (base + (a - getD ws i zeroWindow .first)) ≡ placeFrom base (drop i ws) right a n
+    unfolding placeFrom
+    place-here e = rw next (sym (chosen _ _ _ e))
+
+    place-on : chainGrants (getD ws i zeroWindow) (drop (i + 1) ws) right a n ≡ false
+        → placeFrom (base + getD ws i zeroWindow .length) (drop (i + 1) ws) right a n ≡ placeFrom base (drop i ws) right a n
+    unfolding placeFrom
+    place-on e = rw next (sym (passed _ _ _ e))
+
+    pub place-not-held : holdsAddress (getD ws i zeroWindow) right a ≡ false
+        → placeFrom (base + getD ws i zeroWindow .length) (drop (i + 1) ws) right a n ≡ placeFrom base (drop i ws) right a n
+    place-not-held e = place-on (chain-not-held (getD ws i zeroWindow) (drop (i + 1) ws) right a n e)
+
+    -- the same where the next window ends at an address
+    module _ (reached : ℕ) (ends : reached ≡ endOf (getD ws i zeroWindow)) where
+      pub place-carried : holdsAddress (getD ws i zeroWindow) right a ≡ true → carriesOn (drop (i + 1) ws) right reached (a + n) ≡ true
+          → At (base + (a - getD ws i zeroWindow .first)) ≡ placeFrom base (drop i ws) right a n
+      place-carried held on =
+          place-here (chain-here (getD ws i zeroWindow) (drop (i + 1) ws) right a n held (rw (← ends) on))
+
+      pub place-within : holdsAddress (getD ws i zeroWindow) right a ≡ true → a + n ≤ reached
+          → At (base + (a - getD ws i zeroWindow .first)) ≡ placeFrom base (drop i ws) right a n
+      place-within held h = place-carried held (carries-here (drop (i + 1) ws) right reached (a + n) h)
+
+      pub place-broken : carriesOn (drop (i + 1) ws) right reached (a + n) ≡ false
+          → placeFrom (base + getD ws i zeroWindow .length) (drop (i + 1) ws) right a n ≡ placeFrom base (drop i ws) right a n
+      place-broken e = place-on (chain-broken (getD ws i zeroWindow) (drop (i + 1) ws) right a n (rw (← ends) e))
 
 -- the same of the first count windows
 module _ (count : ℕ) (ws : List Window) (fits : count ≤ length ws) (i : ℕ) (h : i < count) where

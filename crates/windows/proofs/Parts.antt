@@ -1,52 +1,53 @@
--- What a test that holds says of its parts, and that a test whose parts cannot all hold is false.
--- Each goes by the cases of the tests.
-use mathlib.Core.Path.{_≡_}
-use mathlib.Core.Bool.{true}
+-- What a test that holds says of its parts, and which part decides where the others hold. Each goes by the cases of the tests.
+use mathlib.Core.Path.{_≡_, refl}
+use mathlib.Core.Bool.{true, and-true}
 use mathlib.Core.List.{List}
 use Prim.Native.Nat.{ℕ, _+_, _≤_, _<_, _^_}
-use lib.Dec.{leb, lit<}
+use lib.Dec.{leb}
 use lib.ListN.{take}
 use borrow.Author.Tests.{ltb-true, leb-true, lt-ltb, le-leb}
 use Rattle.words.proofs.Choice.{both}
 use Rattle.windows.specs.declared.Window.{Window}
 use Rattle.windows.specs.declared.Right.{Right}
-use Rattle.windows.specs.declared.Right.the-variants.{Load, Set, Entry}
-use Rattle.windows.specs.Window.{numberOf, hasRight, endOf, inside, grantsRange, sumOf}
+use Rattle.windows.specs.Window.{hasRight, endOf, inside, holdsAddress, grantsRange, sumOf}
 use Rattle.windows.specs.Map.{soundWindow, soundAndRising, goodMap}
 
--- no right has the number 0
-pub number-positive : (right : Right) → 0 < numberOf right
-number-positive Load = lit< tt
-number-positive Set = lit< tt
-number-positive Entry = lit< tt
-
--- a window that grants a range has the right, and the range lies inside it
-pub record Granted (w : Window) (right : Right) (a n : ℕ) : Type 0 where
-  pub right-held : hasRight w right ≡ true
+-- an address inside a window lies between its first address and its end
+pub record Within (w : Window) (a : ℕ) : Type 0 where
   pub from-first : w .first ≤ a
   pub before-end : a < endOf w
+
+pub within : (w : Window) (a : ℕ) → inside w a ≡ true → Within w a
+unfolding inside
+within w a e =
+    let range = both _ _ e in
+    record { from-first = leb-true _ _ (range .0); before-end = ltb-true _ _ (range .1) }
+
+-- a window that holds an address has the right, and the address inside it
+pub record Held (w : Window) (right : Right) (a : ℕ) : Type 0 where
+  pub right-held : hasRight w right ≡ true
+  pub lies : Within w a
+
+pub held : (w : Window) (right : Right) (a : ℕ) → holdsAddress w right a ≡ true → Held w right a
+held w right a e =
+    let whole = both (hasRight w right) (inside w a) e in
+    record { right-held = whole .0; lies = within w a (whole .1) }
+
+-- where the address lies inside, the right decides
+pub held-by-right : (w : Window) (right : Right) (a : ℕ) → w .first ≤ a → a < endOf w → hasRight w right ≡ holdsAddress w right a
+unfolding inside
+held-by-right w right a above below = rw (le-leb _ _ above, lt-ltb _ _ below, and-true) refl
+
+-- a window that grants a range holds its address, and the range ends inside it
+pub record Granted (w : Window) (right : Right) (a n : ℕ) : Type 0 where
+  pub address-held : holdsAddress w right a ≡ true
   pub to-end : a + n ≤ endOf w
 
-pub granted : (w : Window) (right : Right) (a n : ℕ)
-    → grantsRange w right a n ≡ true → Granted w right a n
-unfolding grantsRange inside
+pub granted : (w : Window) (right : Right) (a n : ℕ) → grantsRange w right a n ≡ true → Granted w right a n
+unfolding grantsRange
 granted w right a n e =
-    let whole = both _ _ e in
-    let front = both _ _ (whole .0) in
-    let range = both _ _ (front .1) in
-    record {
-      right-held = front .0;
-      from-first = leb-true _ _ (range .0);
-      before-end = ltb-true _ _ (range .1);
-      to-end = leb-true _ _ (whole .1);
-    }
-
--- and such a window grants it
-pub grants-all : (w : Window) (right : Right) (a n : ℕ)
-    → Granted w right a n → true ≡ grantsRange w right a n
-unfolding grantsRange inside
-grants-all w right a n g =
-    simp (g .right-held, le-leb _ _ (g .from-first), lt-ltb _ _ (g .before-end), le-leb _ _ (g .to-end))
+    let whole = both (holdsAddress w right a) (leb (a + n) (endOf w)) e in
+    record { address-held = whole .0; to-end = leb-true _ _ (whole .1) }
 
 -- what a sound window is
 pub record Sound (w : Window) : Type 0 where

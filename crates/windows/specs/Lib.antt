@@ -1,2 +1,3 @@
 pub mod Map
+pub mod Touching
 pub mod Window

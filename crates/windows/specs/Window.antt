@@ -28,15 +28,29 @@ endOf w = w .first + w .length
 unfoldable pub inside : Window → ℕ → Bool
 inside w a = leb (w .first) a && ltb a (endOf w)
 
--- does a window grant a right to a range of n bytes at address a?
-unfoldable pub grantsRange : Window → Right → ℕ → ℕ → Bool
-grantsRange w right a n = hasRight w right && inside w a && leb (a + n) (endOf w)
+-- does a window have a right, and an address inside it?
+abbrev pub holdsAddress : Window → Right → ℕ → Bool
+holdsAddress w right a = hasRight w right && inside w a
 
--- where a range lies by the first window that grants it, the windows' bytes one after another from a base on
+-- does one window grant a right to a range of n bytes at address a?
+unfoldable pub grantsRange : Window → Right → ℕ → ℕ → Bool
+grantsRange w right a n = holdsAddress w right a && leb (a + n) (endOf w)
+
+-- do windows carry on from an address to an end? it is reached, or the next one begins exactly at the address and has the right, and the rest carry
+-- on from where that one ends
+abbrev pub carriesOn : List Window → Right → ℕ → ℕ → Bool
+carriesOn [] right from end = leb end from
+carriesOn (w ∷ ws) right from end = leb end from || (eqb (w .first) from && hasRight w right && carriesOn ws right (endOf w) end)
+
+-- does a chain grant a right to a range of n bytes at address a? its first window holds the address, and those that follow carry on
+abbrev pub chainGrants : Window → List Window → Right → ℕ → ℕ → Bool
+chainGrants w ws right a n = holdsAddress w right a && carriesOn ws right (endOf w) (a + n)
+
+-- where a range lies by the first chain that grants it, the windows' bytes one after another from a base on
 unfoldable pub placeFrom : ℕ → List Window → Right → ℕ → ℕ → Place
 placeFrom base [] right a n = Nowhere
 placeFrom base (w ∷ ws) right a n =
-    pick (grantsRange w right a n) (At (base + (a - w .first))) (placeFrom (base + w .length) ws right a n)
+    pick (chainGrants w ws right a n) (At (base + (a - w .first))) (placeFrom (base + w .length) ws right a n)
 
 -- where a range lies in the lent memory
 unfoldable pub placeOf : List Window → Right → ℕ → ℕ → Place
@@ -47,7 +61,11 @@ unfoldable pub sumOf : List Window → ℕ
 sumOf [] = 0
 sumOf (w ∷ ws) = w .length + sumOf ws
 
+-- does one of the windows pass a test?
+unfoldable pub some : (Window → Bool) → List Window → Bool
+some test [] = false
+some test (w ∷ ws) = test w || some test ws
+
 -- is an address inside one of the windows?
-unfoldable pub insideSome : List Window → ℕ → Bool
-insideSome [] a = false
-insideSome (w ∷ ws) a = inside w a || insideSome ws a
+abbrev pub insideSome : List Window → ℕ → Bool
+insideSome ws a = some (λ w. inside w a) ws

@@ -1,8 +1,8 @@
 // Windows: what a map grants, which maps are good, and where a granted range lies in the lent memory.
 ghost use mathlib.Core.Path.{_≡_};
 ghost use Prim.Native.Nat.{_≤_};
-ghost use lib.ListN.{take};
-ghost use Rattle.windows.specs.Window.{numberOf, grantsRange, placeOf, sumOf};
+ghost use lib.ListN.{take, drop};
+ghost use Rattle.windows.specs.Window.{hasRight, endOf, holdsAddress, grantsRange, carriesOn, placeOf, sumOf};
 ghost use Rattle.windows.specs.Map.{soundWindow, soundAndRising, goodMap, keptOf};
 
 // A stretch of addresses, and the sum of the numbers of its rights.
@@ -25,36 +25,45 @@ pub enum Place {
     Nowhere,
 }
 
-// The number of a right.
-fn number(right: Right) -> u32
-    ensures { λ r. ⌜ r ≡ numberOf right ⌝ }
+// Has the window the right?
+fn has(window: Window, right: Right) -> bool
+    ensures { λ r. ⌜ r ≡ hasRight window right ⌝ }
 {
     match right {
-        Right::Load => 1,
-        Right::Set => 2,
-        Right::Entry => 4,
+        Right::Load => window.rights % 2 == 1,
+        Right::Set => window.rights / 2 % 2 == 1,
+        Right::Entry => window.rights / 4 % 2 == 1,
     }
 }
 
-// Does the window grant the right to a range of size bytes at an address?
-pub fn grants(window: Window, right: Right, address: u32, size: u32) -> bool
-    ensures { λ r. ⌜ r ≡ grantsRange window right address size ⌝ }
+// The end of a window, in 64 bits: it may be 2^32.
+fn end_of(window: Window) -> u64
+    ensures { λ r. ⌜ r ≡ endOf window ⌝ }
 {
-    if window.rights / number(right) % 2 != 1 {
-        return false;
-    }
+    (window.first as u64) + (window.length as u64)
+}
+
+// Has the window the right, and the address inside it?
+fn holds(window: Window, right: Right, address: u32) -> bool
+    ensures { λ r. ⌜ r ≡ holdsAddress window right address ⌝ }
+{
     if address < window.first {
         return false;
     }
-    let end = (window.first as u64) + (window.length as u64);
-    let at = address as u64;
-    if end <= at {
+    if end_of(window) <= (address as u64) {
         return false;
     }
-    if end < at + (size as u64) {
-        return false;
+    has(window, right)
+}
+
+// Does the window alone grant the right to a range of size bytes at an address?
+pub fn grants(window: Window, right: Right, address: u32, size: u32) -> bool
+    ensures { λ r. ⌜ r ≡ grantsRange window right address size ⌝ }
+{
+    if holds(window, right, address) {
+        return (address as u64) + (size as u64) <= end_of(window);
     }
-    true
+    false
 }
 
 // The most windows of a map, and the most bytes of its memory.
@@ -62,16 +71,47 @@ pub const MOST_WINDOWS: usize = 8;
 
 pub const MOST_MEMORY: usize = 65536;
 
-// Where a range lies, by the first window that grants it.
+// Do the windows from an index on carry on from an address to an end? Each begins where the one before ends, and has the right.
+fn carries_on(windows: [Window; 8], next: usize, right: Right, from: u64, end: u64) -> bool
+    ensures { λ r. ⌜ r ≡ carriesOn (drop next windows) right from end ⌝ }
+{
+    let mut reached = from;
+    let mut i = next;
+    while reached < end {
+        if MOST_WINDOWS <= i {
+            return false;
+        }
+        let window = windows[i];
+        if (window.first as u64) != reached {
+            return false;
+        }
+        if !has(window, right) {
+            return false;
+        }
+        reached = end_of(window);
+        i = i + 1;
+    }
+    true
+}
+
+// Where a range lies, by the first chain of windows that grants it. Most ranges end inside the window that holds their address.
 pub fn locate(windows: [Window; 8], right: Right, address: u32, size: u32) -> Place
     ensures { λ r. ⌜ r ≡ placeOf windows right address size ⌝ }
 {
+    let end = (address as u64) + (size as u64);
     let mut base: usize = 0;
     let mut i: usize = 0;
     while i < MOST_WINDOWS {
         let window = windows[i];
-        if grants(window, right, address, size) {
-            return Place::At(base + ((address - window.first) as usize));
+        if holds(window, right, address) {
+            let place = base + ((address - window.first) as usize);
+            let reached = end_of(window);
+            if end <= reached {
+                return Place::At(place);
+            }
+            if carries_on(windows, i + 1, right, reached, end) {
+                return Place::At(place);
+            }
         }
         base = base + (window.length as usize);
         i = i + 1;
