@@ -425,6 +425,19 @@ static const struct window *choose_window(struct writer *writer)
     return &writer->map->windows[random_below(&writer->random, writer->map->count)];
 }
 
+/* Takes a range from a window's last bytes on into the next window, over a seam or a gap, with the right there or not. */
+static void stretch_range(struct writer *writer, const struct window *window, uint32_t unit, uint32_t *address,
+                          uint32_t *size)
+{
+    const struct map *map = writer->map;
+    bool has_next = map->count > 1 && window != &map->windows[map->count - 1];
+    const struct window *next = has_next ? window + 1 : window;
+    uint32_t last = next->first + random_below(&writer->random, next->length);
+
+    *address = window->first + window->length - unit * (1 + random_below(&writer->random, 4));
+    *size = (last - *address + unit) & ~(unit - 1);
+}
+
 /* Moves a range out of its window: past an end, before the beginning, round the top, or anywhere. */
 static void break_range(struct writer *writer, uint32_t unit, uint32_t *address, uint32_t *size)
 {
@@ -432,7 +445,7 @@ static void break_range(struct writer *writer, uint32_t unit, uint32_t *address,
     const struct window *window = choose_window(writer);
     uint32_t end = window->first + window->length;
 
-    switch (random_below(random, 7)) {
+    switch (random_below(random, 9)) {
     case 0: /* one unit too long */
         *address = end - unit * (1 + random_below(random, 4));
         *size = end + unit - *address;
@@ -453,6 +466,10 @@ static void break_range(struct writer *writer, uint32_t unit, uint32_t *address,
     case 5: /* perhaps without the right */
         *address = window->first;
         *size = window->length;
+        break;
+    case 6:
+    case 7:
+        stretch_range(writer, window, unit, address, size);
         break;
     default:
         *address = random_word(random) & ~(unit - 1);

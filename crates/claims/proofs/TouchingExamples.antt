@@ -22,15 +22,16 @@ unfolding rangeJudged
 no-place windows right address size e = rw e refl
 
 pub touching-hold : AllHold touching
-unfolding pick join withField byte number bytesAt put fits fieldFits fieldWritten hasRight inside placeFrom placeOf sumOf soundWindow allSound rising goodMap keptOf
-    multiple rangeJudged loadJudged
-    unitOf unitsJudged fillJudged filled fillMemory fieldShape shapeOf tooWide settingMemory entryJudged
+unfolding pick join withField byte number bytesAt put fits fieldFits fieldWritten hasRight inside placeFrom placeOf sumOf soundWindow allSound
+    rising goodMap keptOf multiple rangeJudged loadJudged unitOf unitsJudged fillJudged filled fillMemory fieldShape shapeOf tooWide settingMemory
+    entryJudged
 touching-hold =
     (refl, refl)
     and (refl, refl)
     and (refl, refl)
     and (refl, refl)
     and (refl, refl)
+    and refl
     and refl
     and refl
     and refl

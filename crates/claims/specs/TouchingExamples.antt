@@ -72,9 +72,10 @@ touching =
     -- an entry address goes by the one window that holds it
     ∷ (entryJudged sideBySide 0x80001000 ≡ Granted 4096)
     ∷ (judgedNumber (entryJudged sideBySide 0x80001010) ≡ 10)
-    -- up to a gap of one byte, over it, and past it
+    -- up to a gap of one byte, into it, over it, and past it
     ∷ (loadJudged apart 0x80000FFF 1 ≡ Granted 4095)
     ∷ (judgedNumber (loadJudged apart 0x80000FFF 2) ≡ 7)
+    ∷ (judgedNumber (loadJudged apart 0x80000FFF 3) ≡ 7)
     ∷ (loadJudged apart 0x80001001 1 ≡ Granted 4096)
     -- a right that is missing in the middle, though both ends have it
     ∷ (judgedNumber (loadJudged barred 0x80000FFF 18) ≡ 7)

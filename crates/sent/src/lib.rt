@@ -94,7 +94,7 @@ pub struct Core {
 // What the line has gathered: whether the start word was answered, and the bytes of an unfinished word.
 pub struct Line {
     pub started: bool,
-    pub have: u32,
+    pub have: u8,
     pub word: u32,
 }
 
@@ -327,7 +327,7 @@ fn tell(refusal: Refusal, reply: Reply, session: Session) -> Answer
 }
 
 // The session with other things gathered on the line.
-fn gather(session: Session, started: bool, have: u32, word: u32) -> Session
+fn gather(session: Session, started: bool, have: u8, word: u32) -> Session
     ensures { λ r. ⌜ r ≡ gathered session started have word ⌝ }
 {
     let line = Line {

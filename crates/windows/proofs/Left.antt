@@ -3,13 +3,15 @@
 use mathlib.Core.Path.{_≡_, refl, ap, sym}
 use mathlib.Core.Bool.{true, false}
 use mathlib.Core.List.{List, _∷_, append-nil}
-use Prim.Native.Nat.{ℕ, suc, _+_, _-_, _≤_, _<_}
+use Prim.Native.Nat.{ℕ, suc, _+_, _-_, _≤_, _<_, max}
 use native.Mathlib.Numerals.{add-one}
 use native.Mathlib.Omega.{arith}
-use borrow.Author.Tests.{le-leb, lt-leb, leb-true, eq-eqb, eqb-true}
+use borrow.Author.Tests.{le-leb, lt-leb, leb-true, leb-false, eq-eqb, eqb-true}
 use lib.ListN.{length, getD, take, drop, set, length-take, drop-of-length-le}
 use lib.Seq.{drop-cons, getD-take, take-all, take-suc-set, append-snoc}
-use Rattle.words.proofs.Choice.{chosen, passed, both, refuted}
+use lib.Dec.{leb}
+use Rattle.words.specs.Choice.{pick}
+use Rattle.words.proofs.Choice.{chosen, passed, by-test, both, refuted}
 use Rattle.windows.specs.declared.Window.{Window}
 use Rattle.windows.specs.declared.Right.{Right}
 use Rattle.windows.specs.declared.Place.the-variants.{At, Nowhere}
@@ -38,10 +40,6 @@ module _ (ws : List Window) (i : ℕ) (h : length ws ≤ i) where
 module _ (ws : List Window) (i : ℕ) (h : i < length ws) where
   next : drop i ws ≡ getD ws i zeroWindow ∷ drop (i + 1) ws
   next = rw (add-one, drop-cons ws i zeroWindow)
-
-  pub sum-next : sumOf (drop i ws) ≡ getD ws i zeroWindow .length + sumOf (drop (i + 1) ws)
-  unfolding sumOf
-  sum-next = ap sumOf next
 
   pub carries-next : (right : Right) (from end : ℕ) → from < end → getD ws i zeroWindow .first ≡ from → hasRight (getD ws i zeroWindow) right ≡ true
       → carriesOn (drop (i + 1) ws) right (endOf (getD ws i zeroWindow)) end ≡ carriesOn (drop i ws) right from end
@@ -93,6 +91,10 @@ module _ (count : ℕ) (ws : List Window) (fits : count ≤ length ws) (i : ℕ)
       let within : i < length (take count ws) = simp length-take (omega arith) in
       rw (← getD-take count ws i zeroWindow h) (next (take count ws) i within)
 
+  pub sum-counted : sumOf (drop i (take count ws)) ≡ getD ws i zeroWindow .length + sumOf (drop (i + 1) (take count ws))
+  unfolding sumOf
+  sum-counted = ap sumOf next-counted
+
   pub rising-on : (from : ℕ) → soundWindow (getD ws i zeroWindow) ≡ true → from ≤ getD ws i zeroWindow .first
       → soundAndRising (endOf (getD ws i zeroWindow)) (drop (i + 1) (take count ws)) ≡ soundAndRising from (drop i (take count ws))
   unfolding allSound rising
@@ -112,6 +114,22 @@ unfolding keptOf
 kept-on ws i h below =
     let left : 8 - i ≡ suc (8 - (i + 1)) = omega arith in
     rw (left, add-one, take-suc-set ws i zeroWindow h, append-snoc)
+
+-- the same of a window that is cleared where it is past the first count
+pub kept-cleared : (count : ℕ) (ws : List Window) (i : ℕ) → length ws ≡ 8 → i < 8
+    → keptOf (max (i + 1) count) (pick (leb count i) (set ws i zeroWindow) ws) ≡ keptOf (max i count) ws
+kept-cleared count ws i eight below =
+    by-test (leb count i)
+    (λ past.
+    let above : count ≤ i = leb-true count i past in
+    let later : max (i + 1) count ≡ i + 1 = omega arith in
+    let now : max i count ≡ i = omega arith in
+    rw (chosen _ _ _ past, later, now) (kept-on ws i (omega arith) below))
+    (λ counted.
+    let below-count : i < count = leb-false count i counted in
+    let later : max (i + 1) count ≡ count = omega arith in
+    let now : max i count ≡ count = omega arith in
+    rw (passed _ _ _ counted, later, now))
 
 -- once all are kept, nothing changes
 pub kept-all : (ws : List Window) (i : ℕ) → length ws ≤ i → 8 ≤ i → ws ≡ keptOf i ws

@@ -1,9 +1,11 @@
 // Windows: what a map grants, which maps are good, and where a granted range lies in the lent memory.
 ghost use mathlib.Core.Path.{_≡_};
-ghost use Prim.Native.Nat.{_≤_};
-ghost use lib.ListN.{take, drop};
+ghost use Prim.Native.Nat.{_≤_, _<_};
+ghost use lib.Dec.{leb};
+ghost use lib.ListN.{take, drop, set};
+ghost use Rattle.words.specs.Choice.{pick};
 ghost use Rattle.windows.specs.Window.{hasRight, endOf, holdsAddress, grantsRange, carriesOn, placeOf, sumOf};
-ghost use Rattle.windows.specs.Map.{soundWindow, soundAndRising, goodMap, keptOf};
+ghost use Rattle.windows.specs.Map.{soundWindow, soundAndRising, goodMap, keptOf, zeroWindow};
 
 // A stretch of addresses, and the sum of the numbers of its rights.
 pub struct Window {
@@ -94,8 +96,19 @@ fn carries_on(windows: [Window; 8], next: usize, right: Right, from: u64, end: u
     true
 }
 
-// Where a range lies, by the first chain of windows that grants it. Most ranges end inside the window that holds their address.
+// Where a range lies, by the first chain of windows that grants it. The first window is asked by itself, before the others are gone through.
 pub fn locate(windows: [Window; 8], right: Right, address: u32, size: u32) -> Place
+    ensures { λ r. ⌜ r ≡ placeOf windows right address size ⌝ }
+{
+    let first = windows[0];
+    if grants(first, right, address, size) {
+        return Place::At((address - first.first) as usize);
+    }
+    go_through(windows, right, address, size)
+}
+
+// The same, window by window. Most ranges end inside the window that holds their address.
+fn go_through(windows: [Window; 8], right: Right, address: u32, size: u32) -> Place
     ensures { λ r. ⌜ r ≡ placeOf windows right address size ⌝ }
 {
     let end = (address as u64) + (size as u64);
@@ -119,13 +132,14 @@ pub fn locate(windows: [Window; 8], right: Right, address: u32, size: u32) -> Pl
     Place::Nowhere
 }
 
-// How many bytes the windows have together: the length of the lent memory.
-pub fn sum(windows: [Window; 8]) -> usize
-    ensures { λ r. ⌜ r ≡ sumOf windows ⌝ }
+// How many bytes the first count windows have together.
+fn sum_first(count: usize, windows: [Window; 8]) -> usize
+    requires { ⌜ count ≤ 8 ⌝ }
+    ensures { λ r. ⌜ r ≡ sumOf (take count windows) ⌝ }
 {
     let mut total: usize = 0;
     let mut i: usize = 0;
-    while i < MOST_WINDOWS {
+    while i < count {
         let window = windows[i];
         total = total + (window.length as usize);
         i = i + 1;
@@ -133,19 +147,40 @@ pub fn sum(windows: [Window; 8]) -> usize
     total
 }
 
-// The first count windows; those past them become all zero.
-pub fn kept(count: usize, windows: [Window; 8]) -> [Window; 8]
-    ensures { λ r. ⌜ r ≡ keptOf count windows ⌝ }
+// How many bytes all of them have: the length of the lent memory.
+pub fn sum(windows: [Window; 8]) -> usize
+    ensures { λ r. ⌜ r ≡ sumOf windows ⌝ }
+{
+    sum_first(MOST_WINDOWS, windows)
+}
+
+// The windows, with one that is past the first count made all zero.
+fn cleared(count: usize, i: usize, windows: [Window; 8]) -> [Window; 8]
+    requires { ⌜ i < 8 ⌝ }
+    ensures { λ r. ⌜ r ≡ pick (leb count i) (set windows i zeroWindow) windows ⌝ }
 {
     let empty = Window {
         first: 0,
         length: 0,
         rights: 0,
     };
-    let mut left = windows;
-    let mut i = count;
-    while i < MOST_WINDOWS {
+    if count <= i {
+        let mut left = windows;
         left[i] = empty;
+        return left;
+    }
+    windows
+}
+
+// The first count windows; those past them become all zero. Each is looked at, so that the compiler may choose it field by field.
+pub fn kept(count: usize, windows: [Window; 8]) -> [Window; 8]
+    ensures { λ r. ⌜ r ≡ keptOf count windows ⌝ }
+{
+    let mut left = windows;
+    let mut i: usize = 0;
+    while i < MOST_WINDOWS {
+        let next = cleared(count, i, left);
+        left = next;
         i = i + 1;
     }
     left
@@ -200,7 +235,7 @@ pub fn is_good(count: usize, windows: [Window; 8]) -> bool
         return false;
     }
     if sound_and_rising(count, windows) {
-        return sum(kept(count, windows)) <= MOST_MEMORY;
+        return sum_first(count, windows) <= MOST_MEMORY;
     }
     false
 }

@@ -11,21 +11,14 @@ use Rattle.words.specs.Bits.{join}
 use Rattle.words.specs.Bytes.{byte, number}
 use Rattle.words.proofs.Joins.{join-low, join-high}
 
--- the number of the first four bytes, written out; those that are missing count as 0
-four : (s : List ℕ) →
-    number (take 4 s) ≡ getD s 0 0 % 256 + 256 * (getD s 1 0 % 256) + 65536 * (getD s 2 0 % 256 + 256 * (getD s 3 0 % 256))
+-- the first four bytes, one by one; those that are missing count as 0
+pub first-four : (s : List ℕ) → number (getD s 0 0 ∷ getD s 1 0 ∷ getD s 2 0 ∷ getD s 3 0 ∷ []) ≡ number (take 4 s)
 unfolding number join
-four [] = refl
-four (a ∷ []) = omega arith
-four (a ∷ b ∷ []) = omega arith
-four (a ∷ b ∷ c ∷ []) = omega arith
-four (a ∷ b ∷ c ∷ d ∷ s) = omega arith
-
-pub number-four : (s : List ℕ) {a b c d : ℕ} → a ≡ getD s 0 0 → b ≡ getD s 1 0 → c ≡ getD s 2 0 → d ≡ getD s 3 0
-    → a < 256 → b < 256 → c < 256 → d < 256
-    → a + 256 * b + 65536 * (c + 256 * d) ≡ number (take 4 s)
-number-four s p q r t a< b< c< d< =
-    rw (four s, ← p, ← q, ← r, ← t, mod-eq-of-lt a<, mod-eq-of-lt b<, mod-eq-of-lt c<, mod-eq-of-lt d<)
+first-four [] = refl
+first-four (a ∷ []) = refl
+first-four (a ∷ b ∷ []) = refl
+first-four (a ∷ b ∷ c ∷ []) = refl
+first-four (a ∷ b ∷ c ∷ d ∷ s) = refl
 
 -- the part of a slice from a place on is what is left of its list
 pub from-place : (s : List ℕ) (at : ℕ) → take (length s - at) (drop at s) ≡ drop at s

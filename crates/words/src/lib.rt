@@ -1,5 +1,6 @@
 // Bytes, bits, little-endian numbers, and units of 1, 2 and 4 bytes at a place of a slice.
 ghost use mathlib.Core.Path.{_≡_};
+ghost use mathlib.Core.List.{[], _∷_};
 ghost use mathlib.Core.Bool.{true};
 ghost use Prim.Native.Nat.{_+_, _≤_, _<_, _^_};
 ghost use lib.ListN.{length, take, getD, set};
@@ -51,13 +52,23 @@ fn byte_at(s: &[u8], place: usize) -> u8
     if place < s.len() { s[place] } else { 0 }
 }
 
-// The number that the first four bytes make; those that are missing count as 0.
+// The number that four bytes make.
+fn number_by(first: u8, second: u8, third: u8, fourth: u8) -> u32
+    ensures { λ r. ⌜ r ≡ number (first ∷ second ∷ third ∷ fourth ∷ []) ⌝ }
+{
+    let low = first as u32 + 256 * (second as u32);
+    let high = third as u32 + 256 * (fourth as u32);
+    low + 65536 * high
+}
+
+// The number that the first four bytes make; those that are missing count as 0. Where none is missing, no byte is asked for by itself.
 pub fn number_of(s: &[u8]) -> u32
     ensures { λ r. ⌜ r ≡ number (take 4 (now (s .entry))) ⌝ }
 {
-    let low = byte_at(s, 0) as u32 + 256 * (byte_at(s, 1) as u32);
-    let high = byte_at(s, 2) as u32 + 256 * (byte_at(s, 3) as u32);
-    low + 65536 * high
+    if 4 <= s.len() {
+        return number_by(s[0], s[1], s[2], s[3]);
+    }
+    number_by(byte_at(s, 0), byte_at(s, 1), byte_at(s, 2), byte_at(s, 3))
 }
 
 // The number of the four bytes from a place on; those that are missing count as 0.

@@ -1,10 +1,9 @@
--- `windows::is_good` meets its contract: a test that failed is a part of `goodMap`, and the sum of the windows
--- that are kept decides where the others hold.
+-- `windows::is_good` meets its contract: a test that failed is a part of `goodMap`, and the sum of the
+-- windows decides where the others hold.
 use mathlib.Core.Path.{sym, _∙_}
 use mathlib.Core.Bool.{true≢false}
 use borrow.Author.Needs.{needs}
 use native.Mathlib.Omega.{arith}
-use Rattle.windows.proofs.Laws.{kept-sum}
 use Rattle.words.proofs.Choice.{refuted}
 use Rattle.windows.proofs.Parts.{good, good-by-sum}
 use Rattle.windows.proofs.is_good.Statement.{statement}
@@ -19,18 +18,13 @@ returns-2 c = refuted _ (λ e. omega (arith, good _ _ e))
 sound-and-rising-requires : tie.Need-sound-and-rising-requires
 sound-and-rising-requires c κs = search needs
 
-kept-requires : tie.Need-kept-requires
-kept-requires c κs = search needs
-
-sum-requires : tie.Need-sum-requires
-sum-requires c κs = search needs
+sum-first-requires : tie.Need-sum-first-requires
+sum-first-requires c κs = search needs
 
 returns-3 : tie.Need-returns-3
 returns-3 c =
-    let start = c .before .before .before .before .before .before in
-    rw (c .sum .ensures, c .before .kept .ensures, kept-sum (start .args .count) (start .args .windows))
-    (good-by-sum _ _ (search needs) (search needs)
-    (sym (c .before .before .before .sound-and-rising .ensures) ∙ c .before .before .if3 .taken))
+    rw (c .sum-first .ensures)
+    (good-by-sum _ _ (search needs) (search needs) (sym (c .before .before .sound-and-rising .ensures) ∙ c .before .if3 .taken))
 
 returns-4 : tie.Need-returns-4
 returns-4 c =
@@ -40,4 +34,4 @@ returns-4 c =
 pub is-good-spec : {M : Type 1} → statement M
 is-good-spec =
     tie.close
-    (tie.spec returns returns-2 sound-and-rising-requires kept-requires sum-requires returns-3 returns-4)
+    (tie.spec returns returns-2 sound-and-rising-requires sum-first-requires returns-3 returns-4)

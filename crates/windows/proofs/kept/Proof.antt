@@ -1,27 +1,25 @@
--- `windows::kept` meets its contract: to keep `i` of the windows as they are now gives what was asked of the windows at the start.
-use mathlib.Core.Path.{_≡_, _∙_}
-use Prim.Native.Nat.{_-_}
+-- `windows::kept` meets its contract: to keep the first count of the windows as they are now, or as many as were looked at, gives what was asked of the windows at the start.
+use mathlib.Core.Path.{_≡_, ap, _∙_}
+use Prim.Native.Nat.{ℕ, _-_, _≤_, max}
 use borrow.Author.Needs.{needs}
+use native.Mathlib.Omega.{arith}
 use lib.ListN.{length}
 use Rattle.windows.specs.Map.{keptOf}
-use Rattle.windows.proofs.Left.{kept-on, kept-all}
+use Rattle.windows.proofs.Left.{kept-cleared, kept-all}
 use Rattle.windows.proofs.kept.Statement.{statement}
 use Rattle.windows.proofs.kept.Tie as tie
 
 abbrev Inv-loop : tie.InvT-loop
-Inv-loop count empty left₀ i₀ left i = (length left ≡ 8) × (keptOf i left ≡ keptOf count left₀)
+Inv-loop count left₀ i₀ left i = (i ≤ 8) × (length left ≡ 8) × (keptOf (max i count) left ≡ keptOf count left₀)
 
 abbrev μ-loop : tie.MeasureT-loop
-μ-loop count empty left₀ i₀ left i = 8 - i
+μ-loop count left₀ i₀ left i = 8 - i
 
 loop-holds : tie.Need-loop-holds Inv-loop μ-loop
-loop-holds c = search needs
+loop-holds c = (search needs, search needs, ap (λ (n : ℕ). keptOf n (c .args .windows)) (omega arith))
 
-mul-left : tie.Need-mul-left Inv-loop μ-loop
-mul-left c = search needs
-
-array-set-from-left : tie.Need-array-set-from-left Inv-loop μ-loop
-array-set-from-left c = search needs
+cleared-requires : tie.Need-cleared-requires Inv-loop μ-loop
+cleared-requires c κs = search needs
 
 add-i : tie.Need-add-i Inv-loop μ-loop
 add-i c = search needs
@@ -32,22 +30,14 @@ loop-less c = search needs
 loop-again : tie.Need-loop-again Inv-loop μ-loop
 loop-again c = (
   search needs,
-  kept-on _ _ (search needs) (search needs) ∙ c .before .loop .inv .1,
+  search needs,
+  rw (c .cleared .ensures) (kept-cleared _ _ _ (search needs) (search needs) ∙ c .before .before .loop .inv .2),
 )
 
 returns : tie.Need-returns Inv-loop μ-loop
-returns c = kept-all _ (c .before .loop .i) (search needs) (search needs) ∙ c .before .loop .inv .1
+returns c = kept-all _ (max (c .before .loop .i) (c .before .before .args .count)) (omega arith) (omega arith) ∙ c .before .loop .inv .2
 
 pub kept-spec : {M : Type 1} → statement M
 kept-spec =
     tie.close
-    (tie.spec
-    Inv-loop
-    μ-loop
-    loop-holds
-    mul-left
-    array-set-from-left
-    add-i
-    loop-less
-    loop-again
-    returns)
+    (tie.spec Inv-loop μ-loop loop-holds cleared-requires add-i loop-less loop-again returns)
