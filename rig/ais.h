@@ -1,7 +1,7 @@
-/* The two bench entries of the proved loader of boot scripts.
+/* The bench entries of the proved loader of boot scripts.
 
-   Both take the map as bytes: 12 for each window, its first address, length and rights as
-   little-endian words. Both take the memory: the bytes of all windows, one window after another.
+   Each takes the map as bytes: 12 for each window, its first address, length and rights as
+   little-endian words. Each takes the memory: the bytes of all windows, one window after another.
    No pointer is null, also where its length is 0, and no two of the stretches overlap. */
 #ifndef AIS_H
 #define AIS_H
@@ -28,6 +28,12 @@ uint64_t ais_sent_session(const uint8_t *map, size_t map_len, uint8_t *memory, s
    nothing was run, and the other three parts are 0. */
 uint64_t ais_flash_run(const uint8_t *map, size_t map_len, uint8_t *memory, size_t memory_len,
                        const uint8_t *image, size_t image_len, uint8_t limit);
+
+/* The same run as ais_flash_run: refusal * 2^32 + words fetched since the opening. The memory is left as
+   that run leaves it. The first word of the image counts, and a word that is read again counts again.
+   Never more words than (limit + 1) * (image_len / 4) are fetched. */
+uint64_t ais_flash_fetched(const uint8_t *map, size_t map_len, uint8_t *memory, size_t memory_len,
+                           const uint8_t *image, size_t image_len, uint8_t limit);
 
 #ifdef __cplusplus
 }

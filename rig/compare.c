@@ -1,8 +1,9 @@
 /* Runs the proved loader and the plain one on the same cases, and compares all that they give back.
 
    compare COUNT SEED [FIRST] runs COUNT cases of the seed, from case FIRST on. It ends with status 1 at the
-   first difference, or (unless FIRST is given) when a refusal or a command was not met at all, or no command of a
-   kind that writes was accepted over a seam. In flash mode 14 can't be met, since a run stops when its session ends. */
+   first difference, or (unless FIRST is given) when a refusal or a command was not met at all, no command of a kind
+   that writes was accepted over a seam, or no flash case met its ceiling of words fetched. In flash mode 14 can't be
+   met, since a run stops when its session ends. */
 #include "ais.h"
 #include "cases.h"
 #include "plain_loader.h"
@@ -44,6 +45,8 @@ struct tally {
     uint64_t retried;          /* flash cases with a retry */
     uint64_t entered_by_retry; /* and of these, those that entered */
     uint64_t retries;          /* counted in all */
+    uint64_t fetched;          /* words in all flash cases */
+    uint64_t at_ceiling;       /* flash cases that fetched as many words as any may */
 };
 
 static char crash_notice[100];
@@ -170,10 +173,35 @@ static bool same_outcome(const struct bench_case *bench_case, const struct outco
     return is_same;
 }
 
+/* The most words that a flash case may fetch. */
+static uint64_t ceiling_of(const struct bench_case *bench_case)
+{
+    return ((uint64_t)bench_case->limit + 1) * (bench_case->script.length / 4);
+}
+
+/* Runs the proved loader again, asked for the words fetched: as many as the plain one fetched in its run, which
+   was the last, no more than the ceiling, and all else as that run left it. */
+static bool same_count(const struct bench_case *bench_case, const struct outcome *plain)
+{
+    struct outcome counted, expected = *plain;
+    bool is_same;
+
+    expected.value = plain->value >> 56 << 32 | plain_fetched;
+    run_loader(bench_case, &counted, GUARD, ais_sent_session, ais_flash_fetched);
+    is_same = same_outcome(bench_case, &counted, &expected);
+    if ((uint32_t)counted.value > ceiling_of(bench_case)) {
+        printf("more words were fetched than the ceiling\n");
+        is_same = false;
+    }
+    free_outcome(&counted);
+    return is_same;
+}
+
 /* ---- Counting ---- */
 
-static void count_case(struct tally *tally, unsigned mode, uint64_t value)
+static void count_case(struct tally *tally, const struct bench_case *bench_case, uint64_t value)
 {
+    unsigned mode = bench_case->script.is_flash ? PLAIN_FLASH : PLAIN_SENT;
     unsigned refusal = (unsigned)(mode == PLAIN_FLASH ? value >> 56 : value >> 32);
 
     tally->cases[mode]++;
@@ -183,6 +211,10 @@ static void count_case(struct tally *tally, unsigned mode, uint64_t value)
         tally->retried++;
         tally->entered_by_retry += refusal == 0;
         tally->retries += value >> 48 & 0xFF;
+    }
+    if (mode == PLAIN_FLASH) {
+        tally->fetched += plain_fetched;
+        tally->at_ceiling += plain_fetched != 0 && plain_fetched == ceiling_of(bench_case);
     }
 }
 
@@ -195,8 +227,10 @@ static void print_tally(const struct tally *tally)
                    tally->refusals[PLAIN_FLASH][refusal]);
     printf("cases      %10" PRIu64 "%10" PRIu64 "\n", tally->cases[PLAIN_SENT], tally->cases[PLAIN_FLASH]);
     printf("entered    %10" PRIu64 "%10" PRIu64 "\n", tally->entered[PLAIN_SENT], tally->entered[PLAIN_FLASH]);
-    printf("retried    %10s%10" PRIu64 ", of which %" PRIu64 " entered; %" PRIu64 " retries in all\n\n", "",
+    printf("retried    %10s%10" PRIu64 ", of which %" PRIu64 " entered; %" PRIu64 " retries in all\n", "",
            tally->retried, tally->entered_by_retry, tally->retries);
+    printf("fetched    %10s%10" PRIu64 " words; %" PRIu64 " cases met their ceiling\n\n", "", tally->fetched,
+           tally->at_ceiling);
     printf("accepted commands           sent     flash\n");
     for (unsigned kind = 0; kind < PLAIN_COMMANDS; kind++)
         printf("%-22s%10" PRIu64 "%10" PRIu64 "\n", plain_command_name(kind), plain_accepted[PLAIN_SENT][kind],
@@ -250,7 +284,9 @@ static bool everything_met(const struct tally *tally)
     bool is_met = all_refusals_met(tally, PLAIN_SENT, sent, sizeof sent / sizeof sent[0]);
 
     is_met &= all_refusals_met(tally, PLAIN_FLASH, flash, sizeof flash / sizeof flash[0]);
-    return all_commands_met() && is_met;
+    if (tally->at_ceiling == 0)
+        printf("no case met its ceiling\n");
+    return all_commands_met() && is_met && tally->at_ceiling != 0;
 }
 
 /* ---- The whole run ---- */
@@ -273,8 +309,10 @@ static bool compare_case(struct bench_case *bench_case, struct tally *tally, uin
     alarm(CASE_SECONDS);
     run_loader(bench_case, &plain, 0, plain_sent_session, plain_flash_run);
     run_loader(bench_case, &proved, GUARD, ais_sent_session, ais_flash_run);
-    count_case(tally, bench_case->script.is_flash ? PLAIN_FLASH : PLAIN_SENT, plain.value);
+    count_case(tally, bench_case, plain.value);
     is_same = same_outcome(bench_case, &proved, &plain);
+    if (bench_case->script.is_flash)
+        is_same &= same_count(bench_case, &plain);
     free_outcome(&plain);
     free_outcome(&proved);
     if (!is_same) {

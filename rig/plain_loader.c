@@ -90,6 +90,7 @@ static const uint32_t RETIRED = 0x58535905;
 
 uint64_t plain_accepted[PLAIN_MODES][PLAIN_COMMANDS];
 uint64_t plain_accepted_over_seam[PLAIN_MODES][PLAIN_COMMANDS];
+uint32_t plain_fetched;
 
 const char *plain_command_name(unsigned kind)
 {
@@ -328,7 +329,14 @@ struct flash_run {
     size_t offset;
     uint8_t limit;
     uint8_t retries;
+    uint32_t fetched; /* words read from the image */
 };
+
+static uint32_t fetch_word(struct flash_run *run, size_t offset)
+{
+    run->fetched++;
+    return read_word(run->image + offset);
+}
 
 static enum refusal flash_load(struct flash_run *run, const uint32_t *arguments, size_t after)
 {
@@ -343,6 +351,7 @@ static enum refusal flash_load(struct flash_run *run, const uint32_t *arguments,
     if (run->length - after < padded)
         return IMAGE_TOO_SHORT;
     memcpy(run->loader.memory + place, data, size);
+    run->fetched += (uint32_t)(padded / WORD_BYTES);
     feed_checksum(&run->loader, address, 32);
     feed_checksum(&run->loader, size, 32);
     for (uint32_t index = 0; index < whole; index += WORD_BYTES)
@@ -406,14 +415,15 @@ static enum refusal flash_command(struct flash_run *run)
 
     if (after > run->length)
         return IMAGE_TOO_SHORT;
-    refusal = find_command(read_word(run->image + run->offset), PLAIN_FLASH, &command);
+    refusal = find_command(fetch_word(run, run->offset), PLAIN_FLASH, &command);
     if (refusal != ACCEPTED)
         return refusal;
     argument_count = (unsigned)COMMANDS[command].argument_words[PLAIN_FLASH];
-    if (run->length - after < argument_count * WORD_BYTES)
-        return IMAGE_TOO_SHORT;
-    for (unsigned index = 0; index < argument_count; index++, after += WORD_BYTES)
-        arguments[index] = read_word(run->image + after);
+    for (unsigned index = 0; index < argument_count; index++, after += WORD_BYTES) {
+        if (run->length - after < WORD_BYTES)
+            return IMAGE_TOO_SHORT;
+        arguments[index] = fetch_word(run, after);
+    }
     if (command == LOAD) {
         refusal = flash_load(run, arguments, after);
     } else if (command == REQUEST) {
@@ -434,7 +444,7 @@ static enum refusal flash_opening(struct flash_run *run, const uint8_t *map, siz
         return MAP_WRONG;
     if (run->length % WORD_BYTES != 0 || run->length < WORD_BYTES || run->length > IMAGE_LIMIT)
         return IMAGE_LENGTH_WRONG;
-    if (read_word(run->image) != FIRST_WORD)
+    if (fetch_word(run, 0) != FIRST_WORD)
         return FIRST_WORD_WRONG;
     return ACCEPTED;
 }
@@ -453,6 +463,7 @@ uint64_t plain_flash_run(const uint8_t *map, size_t map_length, uint8_t *memory,
         last_offset = run.offset;
         refusal = flash_command(&run);
     }
+    plain_fetched = run.fetched;
     return (uint64_t)refusal << 56 | (uint64_t)run.retries << 48 | (uint64_t)(last_offset / 4) << 32 |
            run.loader.checksum;
 }

@@ -13,13 +13,16 @@ extern uint64_t plain_accepted[PLAIN_MODES][PLAIN_COMMANDS];
 extern uint64_t plain_accepted_over_seam[PLAIN_MODES][PLAIN_COMMANDS]; /* those whose range lies in several windows */
 const char *plain_command_name(unsigned kind);
 
+/* How many words the last flash run fetched from its image, its first word included. */
+extern uint32_t plain_fetched;
+
 /* Whether a mode allows a kind at all. */
 int plain_command_allowed(unsigned mode, unsigned kind);
 
 /* Whether a kind writes a range of memory: Load, Fill and Boot Table. */
 int plain_command_writes(unsigned kind);
 
-/* The same calls, with the same answers, as the two entries in ais.h. */
+/* The same calls, with the same answers, as ais_sent_session and ais_flash_run in ais.h. */
 uint64_t plain_sent_session(const uint8_t *map, size_t map_length, uint8_t *memory, size_t memory_length,
                             const uint8_t *fed, size_t fed_length, uint8_t *room, size_t room_length);
 uint64_t plain_flash_run(const uint8_t *map, size_t map_length, uint8_t *memory, size_t memory_length,

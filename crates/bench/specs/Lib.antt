@@ -1,2 +1,3 @@
 pub mod Feeding
+pub mod Fetched
 pub mod Runs

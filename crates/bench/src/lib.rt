@@ -3,9 +3,11 @@ ghost use mathlib.Core.Path.{_≡_};
 ghost use Prim.Native.Nat.{_+_, _*_, _^_, _≤_};
 ghost use lib.ListN.{length};
 ghost use lib.Seq.{sets};
+ghost use Rattle.words.specs.Choice.{pick};
 ghost use Rattle.script.specs.Answers.{numberOf};
 ghost use Rattle.sent.specs.Replies.{sentBytes};
 ghost use Rattle.bench.specs.Feeding.{firstOf, fedAll, greeted, mostFed, openingRoom, byteRoom, roomy, sessionFrom, tallied, laidIn, sentValue, sentMemory, sentRoom};
+ghost use Rattle.bench.specs.Fetched.{fetchedReport, fetchedValue};
 ghost use Rattle.bench.specs.Runs.{ranFrom, reported, flashValue, flashMemory};
 use flash::Called;
 use flash::Opened;
@@ -52,14 +54,43 @@ fn run_from(opened: Opened, memory: &mut [u8], image: &[u8]) -> Called
     }
 }
 
+// An answer in one number: refusal, words fetched since the opening.
+fn report_fetched(called: Called) -> u64
+    ensures { λ r. ⌜ r ≡ fetchedReport called ⌝ }
+{
+    let refusal = called.refusal;
+    ((refusal.number() as u64) << 32) + (called.session.fetched as u64)
+}
+
+// Opens an image on a map and runs it, unchanged, to the end of its session; answered by its report, or by the words fetched.
+fn run_image(map: &[u8], memory: &mut [u8], image: &[u8], limit: u8, fetched: bool) -> u64
+    ensures { λ r. ⌜ r ≡ pick fetched (fetchedValue (now (map .entry)) (now (memory .entry)) (now (image .entry)) limit) (flashValue (now (map .entry)) (now (memory .entry)) (now (image .entry)) limit) ⌝ }
+    ensures { λ _. ⌜ now (memory .exit) ≡ flashMemory (now (map .entry)) (now (memory .entry)) (now (image .entry)) limit ⌝ }
+{
+    let opened = Session::open(maps::count_of(map), maps::windows_of(map), image, limit);
+    let called = run_from(opened, memory, image);
+    if fetched {
+        return report_fetched(called);
+    }
+    report(called)
+}
+
 // One whole flash run of an unchanged image.
 #[no_mangle]
 pub extern "C" fn ais_flash_run(map: &[u8], memory: &mut [u8], image: &[u8], limit: u8) -> u64
     ensures { λ r. ⌜ r ≡ flashValue (now (map .entry)) (now (memory .entry)) (now (image .entry)) limit ⌝ }
     ensures { λ _. ⌜ now (memory .exit) ≡ flashMemory (now (map .entry)) (now (memory .entry)) (now (image .entry)) limit ⌝ }
 {
-    let opened = Session::open(maps::count_of(map), maps::windows_of(map), image, limit);
-    report(run_from(opened, memory, image))
+    run_image(map, memory, image, limit, false)
+}
+
+// The same run, asked for the words that it fetched.
+#[no_mangle]
+pub extern "C" fn ais_flash_fetched(map: &[u8], memory: &mut [u8], image: &[u8], limit: u8) -> u64
+    ensures { λ r. ⌜ r ≡ fetchedValue (now (map .entry)) (now (memory .entry)) (now (image .entry)) limit ⌝ }
+    ensures { λ _. ⌜ now (memory .exit) ≡ flashMemory (now (map .entry)) (now (memory .entry)) (now (image .entry)) limit ⌝ }
+{
+    run_image(map, memory, image, limit, true)
 }
 
 // Writes a reply into the room from a place on; the place past it.

@@ -29,10 +29,13 @@ use Rattle.commands.proofs.fill.Reads as fill
 use Rattle.commands.proofs.boot_table.Reads as boot_table
 use Rattle.commands.proofs.jump_and_close.Reads as jump_and_close
 use Rattle.commands.proofs.seek.Reads as seek
+use Rattle.flash.proofs.is_length.Reads as is_length
 use Rattle.flash.proofs.Session.«open».Reads as flash-opening
 use Rattle.flash.proofs.Session.step.Reads as flash-step
 use Rattle.runs.proofs.run.Reads as run
 use Rattle.checking.proofs.check.Reads as check
+use Rattle.checking.proofs.count_fetches.Reads as count_fetches
+use Rattle.checking.proofs.limit_of.Reads as limit_of
 use Rattle.sent.proofs.Session.«open».Reads as sent-opening
 use Rattle.sent.proofs.Session.step.Reads as sent-step
 use Rattle.sent.proofs.take_word.Reads as take_word
@@ -41,6 +44,7 @@ use Rattle.sent.specs.declared.Session.{Session}
 use Rattle.port.specs.Port.{isGiven}
 use Rattle.maps.proofs.count_of.Reads as count_of
 use Rattle.maps.proofs.windows_of.Reads as windows_of
+use Rattle.bench.proofs.ais_flash_fetched.Reads as ais_flash_fetched
 use Rattle.bench.proofs.ais_flash_run.Reads as ais_flash_run
 use Rattle.bench.proofs.ais_sent_session.Reads as ais_sent_session
 use Rattle.port.specs.declared.Told.{Told}
@@ -148,6 +152,9 @@ pub seek-unique : OneResult seek.Post
 seek-unique κs a r s e f = same
 
 -- flash
+pub is-length-unique : OneResult is_length.Post
+is-length-unique κs a r s e f = same
+
 pub flash-open-unique : OneResult flash-opening.Post
 flash-open-unique κs a r s e f = same
 
@@ -161,6 +168,12 @@ run-unique κs a r s e f = both-same
 -- checking
 pub check-unique : OneResult check.Post
 check-unique κs a r s e f = same
+
+pub count-fetches-unique : OneResult count_fetches.Post
+count-fetches-unique κs a r s e f = same
+
+pub limit-of-unique : OneResult limit_of.Post
+limit-of-unique κs a r s e f = same
 
 -- sent
 pub sent-open-unique : OneResult sent-opening.Post
@@ -187,6 +200,9 @@ windows-of-unique κs a r s e f = same
 -- bench: the sent entry has a memory and a room
 pub ais-flash-run-unique : OneResultAndMemory ais_flash_run.Post (λ κs e. now (e .1 .0))
 ais-flash-run-unique κs a r s e f = both-same
+
+pub ais-flash-fetched-unique : OneResultAndMemory ais_flash_fetched.Post (λ κs e. now (e .1 .0))
+ais-flash-fetched-unique κs a r s e f = both-same
 
 pub ais-sent-session-unique : Coincide ais_sent_session.Post
     (λ κs r s e f. (r ≡ s) × ((now (e .1 .0) ≡ now (f .1 .0)) × (now (e .1 .1 .1 .0) ≡ now (f .1 .1 .1 .0))))

@@ -3,8 +3,9 @@ ghost use mathlib.Core.Path.{_≡_};
 ghost use mathlib.Core.Bool.{false};
 ghost use mathlib.Core.List.{[], _∷_};
 ghost use Prim.Native.Nat.{ℕ, _+_, _*_, _/_, _%_, _≤_, min};
+ghost use lib.Dec.{leb};
 ghost use lib.ListN.{length};
-ghost use Rattle.words.specs.Bytes.{byte, put, sizeOf};
+ghost use Rattle.words.specs.Bytes.{byte, bytesAt, put, sizeOf};
 ghost use Rattle.words.specs.Choice.{pick};
 ghost use Rattle.checksum.specs.Checksum.{fedWords};
 ghost use Rattle.commands.specs.Commands.{
@@ -150,6 +151,31 @@ fn left_over(left: usize) -> u32
     if left < 4 { left as u32 } else { 4 }
 }
 
+// Do `size` bytes from a place on lie inside so many?
+fn is_inside(place: usize, size: usize, length: usize) -> bool
+    ensures { λ r. ⌜ r ≡ leb (place + size) length ⌝ }
+{
+    if length < place {
+        return false;
+    }
+    if length - place < size {
+        return false;
+    }
+    true
+}
+
+// What the data of a load feed once they are copied: taken from their place, so that they are taken from where they came only once.
+fn feed_copied(register: u32, memory: &[u8], place: usize, bytes: &[u8]) -> u32
+    requires { ⌜ (place + length (now bytes) ≤ length (now memory) → bytesAt (now memory) place (length (now bytes)) ≡ now bytes) ⌝ }
+    ensures { λ r. ⌜ r ≡ wordsFed register ((length (now (bytes .entry)) + 3) / 4) (now (bytes .entry)) ⌝ }
+{
+    if is_inside(place, bytes.len(), memory.len()) {
+        let end = place + bytes.len();
+        return feed_data(register, &memory[place..end]);
+    }
+    feed_data(register, bytes)
+}
+
 // Does a load that was granted: its bytes at their place; the answer is the register.
 pub fn load(
     memory: &mut [u8],
@@ -166,7 +192,7 @@ pub fn load(
     if on {
         let size = (bytes.len() % 4294967296) as u32;
         let head = checksum::feed_word(checksum::feed_word(register, address), size);
-        return feed_data(head, bytes);
+        return feed_copied(head, memory, place, bytes);
     }
     register
 }

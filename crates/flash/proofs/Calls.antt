@@ -1,14 +1,14 @@
--- The law of a call, by the cases of the rules: the words that the table gives a command are those that it passes, and a command that was judged is accepted
--- or ends the session.
-use Prim.Native.Nat.{ℕ, _+_, _*_, _≤_, _<_}
+-- The law of a call, by the cases of the rules: the words that the table gives a command are those that it passes and fetches, and a command that was judged
+-- is accepted or ends the session.
+use Prim.Native.Nat.{ℕ, _+_, _*_, _/_, _≤_, _<_, min}
 use mathlib.Core.Bool.{Bool, true, false, _||_, true≢false}
 use mathlib.Core.List.{List}
 use mathlib.Core.Logic.{_≢_}
-use mathlib.Core.Path.{_≡_, refl, sym, subst, _∙_}
+use mathlib.Core.Path.{_≡_, refl, sym, ap, subst, _∙_}
 use native.Mathlib.Omega.{arith}
 use lib.Dec.{eqb}
 use lib.ListN.{length}
-use borrow.Author.Tests.{leb-true, leb-false, eqb-true, eq-eqb, ne-eqb, not-false}
+use borrow.Author.Tests.{leb-true, leb-false, eqb-true, eq-eqb, ne-eqb, not-true, not-false}
 use Rattle.words.specs.Bytes.{wordAt}
 use Rattle.words.specs.Choice.{pick}
 use Rattle.words.proofs.Choice.{chosen, passed, both, of-choice}
@@ -26,10 +26,10 @@ use Rattle.script.proofs.Counts.{rowIs, row-is}
 use Rattle.commands.specs.declared.Done.{Done}
 use Rattle.commands.specs.declared.Judged.{Judged}
 use Rattle.commands.specs.declared.Sought.{Sought}
-use Rattle.flash.specs.Calls.{dataWords, Reads, spares, Way, forward, back, kept, Call, EveryCall}
+use Rattle.flash.specs.Calls.{dataWords, argumentWords, met, Reads, spares, Way, forward, back, kept, Call, EveryCall}
 use Rattle.flash.specs.Opening.{goodLength}
-use Rattle.flash.specs.Sessions.{Outcome, changed, unchanged, stopped, accepted}
-use Rattle.flash.specs.Step.{present, argument, after, loadAt, loadJudgedAs, soughtAs, requested, entered, performed, atRow, stepOf}
+use Rattle.flash.specs.Sessions.{Outcome, changed, countedOn, fetching, unchanged, stopped, accepted}
+use Rattle.flash.specs.Step.{present, wordsFrom, argument, after, loadAt, loadJudgedAs, soughtAs, requested, entered, performed, atRow, stepOf}
 use Rattle.flash.specs.declared.Called.{Called}
 use Rattle.flash.specs.declared.Session.{Session}
 use Rattle.flash.proofs.Verdicts.{Ending, ends, Judges, grants, denies, load-judges, Answers, accepts, rejects, fill-answers, setting-answers, close-answers, Leads, leads, astray, seek-leads}
@@ -39,8 +39,22 @@ there : (image : List ℕ) (at n : ℕ) → present image at n ≡ true → at +
 unfolding present
 there image at n e = leb-true _ _ e
 
+-- words are not there
+lacking : (image : List ℕ) (at n : ℕ) → present image at n ≡ false → length image < at + 4 * n
+unfolding present
+lacking image at n e = leb-false _ _ e
+
+-- a count with none more, and with more in two parts
+pub counted-none : (fetched : ℕ) → fetched ≡ countedOn fetched 0
+unfolding countedOn
+counted-none fetched = omega arith
+
+pub counted-both : (fetched first second : ℕ) → countedOn (countedOn fetched first) second ≡ countedOn fetched (first + second)
+unfolding countedOn
+counted-both fetched first second = omega arith
+
 -- a refusal that ends the session is not 14
-not-over : (q : Refusal) → spares q ≡ false → eqb (numberOf q) 14 ≡ false
+pub not-over : (q : Refusal) → spares q ≡ false → eqb (numberOf q) 14 ≡ false
 not-over q = last (eqb (numberOf q) 2 || eqb (numberOf q) 3) (eqb (numberOf q) 14)
   where
     last : (a b : Bool) → (a || b) ≡ false → b ≡ false
@@ -49,24 +63,42 @@ not-over q = last (eqb (numberOf q) 2 || eqb (numberOf q) 3) (eqb (numberOf q) 1
 
 module _ (s : Session) (image : List ℕ) where
   -- an answer with what a call may change of the session
-  answered : {q : Refusal} {told : Event} {at : ℕ} {over switch : Bool} {register offset retries : ℕ}
-      → Way s image (record { refusal = q; event = told; at = at; session = changed s over switch register offset retries })
+  answered : {q : Refusal} {told : Event} {at : ℕ} {over switch : Bool} {register offset retries fetched : ℕ}
+      → Way s image (record { refusal = q; event = told; at = at; session = changed s over switch register offset retries fetched })
       → eqb (numberOf q) 14 ≡ s .ended → at ≡ pick (spares q) 0 (s .offset)
-      → Call s image (record { refusal = q; event = told; at = at; session = changed s over switch register offset retries })
+      → Call s image (record { refusal = q; event = told; at = at; session = changed s over switch register offset retries fetched })
   answered way over at = record { way = way; same-windows = refl; same-length = refl; same-limit = refl; over = over; at = at }
 
   -- refused, the session spared
   spared : (q : Refusal) → spares q ≡ true → numberOf q ≢ 0 → eqb (numberOf q) 14 ≡ s .ended → Call s image (unchanged q s)
   spared q spare low over =
       answered
-      (kept (record { refused = low; offset = refl; retries = refl; spared = λ e. refl; ended = λ e. absurd (true≢false (sym spare ∙ e)) }))
+      (kept
+      (record {
+        refused = low;
+        offset = refl;
+        retries = refl;
+        spared = λ e. refl;
+        fetched = λ e. absurd (true≢false (sym spare ∙ e));
+        ended = λ e. absurd (true≢false (sym spare ∙ e));
+      }))
       over (sym (chosen _ _ _ spare))
+
+  -- what is met where no opcode is there, and where the table says something of it
+  met-none : length image < s .offset + 4 → met s image ≡ 0
+  unfolding met wordsFrom
+  met-none h = omega arith
+
+  met-found : {found : Found} → lookedUp (wordAt image (s .offset)) Flash ≡ found → s .offset + 4 ≤ length image
+      → met s image ≡ 1 + min (argumentWords found) (wordsFrom image (s .offset + 4))
+  unfolding met wordsFrom
+  met-found e h = rw e (omega arith)
 
   module _ (standing : s .ended ≡ false) where
     -- refused, the session ended
-    stops : (q : Refusal) {switch : Bool} {register : ℕ} → Ending q
-        → Call s image (stopped q (changed s (s .ended) switch register (s .offset) (s .retries)))
-    stops q e =
+    stops : (q : Refusal) {switch : Bool} {register fetched : ℕ} → Ending q → fetched ≡ countedOn (s .fetched) (met s image)
+        → Call s image (stopped q (changed s (s .ended) switch register (s .offset) (s .retries) fetched))
+    stops q e all =
         answered
         (kept
         (record {
@@ -74,15 +106,16 @@ module _ (s : Session) (image : List ℕ) where
           offset = refl;
           retries = refl;
           spared = λ spare. absurd (true≢false (sym spare ∙ e .unspared));
+          fetched = λ e. all;
           ended = λ e. refl;
         }))
         (not-over q (e .unspared) ∙ sym standing) (sym (passed _ _ _ (e .unspared)))
 
     -- accepted, past the words of the command
-    passes : {c : Command} {words : ℕ} {told : Event} {over switch : Bool} {register offset : ℕ} → Reads s image c words
-        → offset ≡ s .offset + 4 * words → over ≡ eqb (kindOf told) 3 → (kindOf told ≡ 3 → c ≡ command.JumpAndClose)
-        → Call s image (accepted s told (changed s over switch register offset (s .retries)))
-    passes {c} {words} reads past ended entering =
+    passes : {c : Command} {words : ℕ} {told : Event} {over switch : Bool} {register offset fetched : ℕ} → Reads s image c words
+        → offset ≡ s .offset + 4 * words → fetched ≡ countedOn (s .fetched) words → over ≡ eqb (kindOf told) 3 → (kindOf told ≡ 3 → c ≡ command.JumpAndClose)
+        → Call s image (accepted s told (changed s over switch register offset (s .retries) fetched))
+    passes {c} {words} reads past all ended entering =
         answered
         (forward
         (record {
@@ -91,6 +124,7 @@ module _ (s : Session) (image : List ℕ) where
           reads = reads;
           accepted = refl;
           offset = past;
+          fetched = all;
           retries = refl;
           ended = ended;
           entering = entering;
@@ -98,105 +132,132 @@ module _ (s : Session) (image : List ℕ) where
         (sym standing) (sym (passed _ _ _ refl))
 
     -- accepted with no event of entering, and going on
-    goes-on : {c : Command} {words : ℕ} {told : Event} {switch : Bool} {register offset : ℕ} → kindOf told ≢ 3 → Reads s image c words
-        → offset ≡ s .offset + 4 * words → Call s image (accepted s told (changed s (s .ended) switch register offset (s .retries)))
-    goes-on other reads past = passes reads past (standing ∙ sym (ne-eqb _ _ other)) (λ e. absurd (other e))
+    goes-on : {c : Command} {words : ℕ} {told : Event} {switch : Bool} {register offset fetched : ℕ} → kindOf told ≢ 3 → Reads s image c words
+        → offset ≡ s .offset + 4 * words → fetched ≡ countedOn (s .fetched) words
+        → Call s image (accepted s told (changed s (s .ended) switch register offset (s .retries) fetched))
+    goes-on other reads past all = passes reads past all (standing ∙ sym (ne-eqb _ _ other)) (λ e. absurd (other e))
 
-    -- a command of n words that was judged
-    after-call : {c : Command} {kind : ℕ} {done : Done} (n : ℕ) → kind ≢ 3 → Answers kind done → Reads s image c n → Call s image (after s done n)
-    unfolding after
-    after-call n other (accepts e k) reads =
-        subst (Call s image) (sym (chosen _ _ _ (eq-eqb _ _ e))) (goes-on (λ z. other (sym k ∙ z)) reads refl)
-    after-call n other (rejects e) reads = subst (Call s image) (sym (passed _ _ _ (ne-eqb _ _ (e .refused)))) (stops _ e)
+    -- a command whose opcode and argument words were met, and fetched
+    module _ (n : ℕ) (whole : met s image ≡ n) where
+      abbrev fetched : Session
+      fetched = fetching n s
 
-    entered-call : {done : Done} (n : ℕ) → Answers 3 done → Reads s image command.JumpAndClose n → Call s image (entered (after s done n))
-    unfolding after
-    entered-call n (accepts e k) reads =
-        subst (λ (a : Called). Call s image (entered a)) (sym (chosen _ _ _ (eq-eqb _ _ e)))
-        (passes reads refl (sym (eq-eqb _ _ k)) (λ z. refl))
-    entered-call n (rejects e) reads =
-        subst (λ (a : Called). Call s image (entered a)) (sym (passed _ _ _ (ne-eqb _ _ (e .refused)))) (stops _ e)
+      -- refused it has fetched these
+      denied : (q : Refusal) {switch : Bool} {register : ℕ} → Ending q
+          → Call s image (stopped q (changed fetched (s .ended) switch register (s .offset) (s .retries) (fetched .fetched)))
+      denied q e = stops q e (ap (countedOn (s .fetched)) (sym whole))
 
-    module _ {words : ℕ} (reads : Reads s image command.Request words) where
-      sought-call : {led : Sought} → Leads (s .offset) led → s .retries < s .limit → Call s image (soughtAs s led)
-      sought-call (leads aligned low below) left =
-          answered
-          (back
-          (record {
-            words = words;
-            reads = reads;
-            accepted = refl;
-            aligned = aligned;
-            low = low;
-            below = below;
-            left = left;
-            counted = refl;
-            running = standing;
-          }))
-          (sym standing) (sym (passed _ _ _ refl))
-      sought-call (astray e) left = stops _ e
+      -- that was judged
+      after-call : {c : Command} {kind : ℕ} {done : Done} (words : ℕ) → words ≡ n → kind ≢ 3 → Answers kind done → Reads s image c words
+          → Call s image (after fetched done words)
+      unfolding after
+      after-call words all other (accepts e k) reads =
+          subst (Call s image) (sym (chosen _ _ _ (eq-eqb _ _ e)))
+          (goes-on (λ z. other (sym k ∙ z)) reads refl (ap (countedOn (s .fetched)) (sym all)))
+      after-call words all other (rejects e) reads = subst (Call s image) (sym (passed _ _ _ (ne-eqb _ _ (e .refused)))) (denied _ e)
 
-      request-call : (expected seek : ℕ) → words ≡ 3 → Call s image (requested s expected seek)
-      unfolding requested
-      request-call expected seek three =
-          of-choice (Call s image) _ (λ e. goes-on (λ z. omega arith) reads (omega arith))
-          (λ e. of-choice (Call s image) _ (λ e. stops refusal.Checksum (ends refusal.Checksum refl))
-          (λ e. sought-call (seek-leads (s .offset) seek) (leb-false _ _ e)))
+      entered-call : {done : Done} (words : ℕ) → words ≡ n → Answers 3 done → Reads s image command.JumpAndClose words
+          → Call s image (entered (after fetched done words))
+      unfolding after
+      entered-call words all (accepts e k) reads =
+          subst (λ (a : Called). Call s image (entered a)) (sym (chosen _ _ _ (eq-eqb _ _ e)))
+          (passes reads refl (ap (countedOn (s .fetched)) (sym all)) (sym (eq-eqb _ _ k)) (λ z. refl))
+      entered-call words all (rejects e) reads =
+          subst (λ (a : Called). Call s image (entered a)) (sym (passed _ _ _ (ne-eqb _ _ (e .refused)))) (denied _ e)
+
+      module _ {words : ℕ} (all : words ≡ n) (reads : Reads s image command.Request words) where
+        sought-call : {led : Sought} → Leads (s .offset) led → s .retries < s .limit → Call s image (soughtAs fetched led)
+        sought-call (leads aligned low below) left =
+            answered
+            (back
+            (record {
+              words = words;
+              reads = reads;
+              accepted = refl;
+              aligned = aligned;
+              low = low;
+              below = below;
+              left = left;
+              fetched = ap (countedOn (s .fetched)) (sym all);
+              counted = refl;
+              running = standing;
+            }))
+            (sym standing) (sym (passed _ _ _ refl))
+        sought-call (astray e) left = denied _ e
+
+        request-call : (expected seek : ℕ) → words ≡ 3 → Call s image (requested fetched expected seek)
+        unfolding requested
+        request-call expected seek three =
+            of-choice (Call s image) _ (λ e. goes-on (λ z. omega arith) reads (omega arith) (ap (countedOn (s .fetched)) (sym all)))
+            (λ e. of-choice (Call s image) _ (λ e. denied refusal.Checksum (ends refusal.Checksum refl))
+            (λ e. sought-call (seek-leads (s .offset) seek) (leb-false _ _ e)))
 
     module _ (m : List ℕ) (same : length image ≡ s .length) where
       -- what holds of an outcome holds of its answer
       abbrev Answered : Outcome → Type 0
       Answered o = Call s image (o .answer)
 
-      -- a row that is found, and its command's words
-      module _ {c : Command} {arguments : ℕ} (known : lookedUp (wordAt image (s .offset)) Flash ≡ Known c arguments) where
+      -- a row that is found, its command's argument words there
+      module _ {c : Command} {arguments : ℕ} (known : lookedUp (wordAt image (s .offset)) Flash ≡ Known c arguments)
+          (here : s .offset + 4 + 4 * arguments ≤ length image) where
         read : (words : ℕ) → words ≡ 1 + arguments + dataWords c s image → s .offset + 4 * words ≤ length image → Reads s image c words
         read words count present = record { arguments = arguments; row = known; count = count; present = present; lent = same }
 
-      load-call : {arguments : ℕ} {j : Judged} → lookedUp (wordAt image (s .offset)) Flash ≡ Known command.Load arguments → arguments ≡ 2
-          → Judges j → Answered (loadJudgedAs s m image (argument s image 0) (argument s image 1) j)
-      unfolding loadAt
-      load-call known two grants =
-          of-choice Answered _ (λ e. stops refusal.Missing (ends refusal.Missing refl))
+        whole : met s image ≡ 1 + arguments
+        unfolding wordsFrom
+        whole = met-found known (omega arith) ∙ omega arith
+
+      load-call : {arguments : ℕ} {j : Judged} → lookedUp (wordAt image (s .offset)) Flash ≡ Known command.Load arguments
+          → s .offset + 4 + 4 * arguments ≤ length image → arguments ≡ 2 → Judges j
+          → Answered
+          (loadJudgedAs (fetching (1 + arguments) s) m image (argument (fetching (1 + arguments) s) image 0)
+          (argument (fetching (1 + arguments) s) image 1) j)
+      unfolding loadAt argument
+      load-call {arguments} known here two grants =
+          of-choice Answered _ (λ e. denied (1 + arguments) (whole known here) refusal.Missing (ends refusal.Missing refl))
           (λ e. goes-on (λ z. omega arith)
-          (read known (3 + dataWords command.Load s image) (omega arith) (omega (arith, there image _ _ (not-false _ e)))) (omega arith))
-      load-call known two (denies e) = stops _ e
+          (read known here (1 + arguments + dataWords command.Load s image) refl (omega (arith, there image _ _ (not-false _ e)))) (omega arith)
+          (counted-both (s .fetched) (1 + arguments) _))
+      load-call {arguments} known here two (denies e) = denied (1 + arguments) (whole known here) _ e
 
       -- each command whose argument words are there
       performed-call : (c : Command) (arguments : ℕ) → rowIs Flash c arguments ≡ true → lookedUp (wordAt image (s .offset)) Flash ≡ Known c arguments
-          → s .offset + 4 + 4 * arguments ≤ length image → Answered (performed c s m image)
+          → s .offset + 4 + 4 * arguments ≤ length image → Answered (performed c (fetching (1 + arguments) s) m image)
       unfolding rowIs
-      performed-call command.Load n row known h =
-          load-call known (eqb-true n 2 row) (load-judges (s .windows) (argument s image 0) (argument s image 1))
+      performed-call command.Load n row known h = load-call known h (eqb-true n 2 row) (load-judges (s .windows) _ _)
       performed-call command.Fill n row known h =
           let four = eqb-true n 4 row in
-          after-call 5 (λ z. omega arith) (fill-answers _ _ _ _ _ _ _) (read known 5 (omega arith) (omega arith))
+          after-call (1 + n) (whole known h) 5 (omega arith) (λ z. omega arith) (fill-answers _ _ _ _ _ _ _) (read known h 5 (omega arith) (omega arith))
       performed-call command.BootTable n row known h =
           let four = eqb-true n 4 row in
-          after-call 5 (λ z. omega arith) (setting-answers _ _ _ _ _ _) (read known 5 (omega arith) (omega arith))
+          after-call (1 + n) (whole known h) 5 (omega arith) (λ z. omega arith) (setting-answers _ _ _ _ _ _) (read known h 5 (omega arith) (omega arith))
       performed-call command.Enable n row known h =
           let none = eqb-true n 0 row in
-          goes-on (λ z. omega arith) (read known 1 (omega arith) (omega arith)) (omega arith)
+          goes-on (λ z. omega arith) (read known h (1 + n) (omega arith) (omega arith)) (omega arith) refl
       performed-call command.Disable n row known h =
           let none = eqb-true n 0 row in
-          goes-on (λ z. omega arith) (read known 1 (omega arith) (omega arith)) (omega arith)
+          goes-on (λ z. omega arith) (read known h (1 + n) (omega arith) (omega arith)) (omega arith) refl
       performed-call command.Request n row known h =
           let two = eqb-true n 2 row in
-          request-call (read known 3 (omega arith) (omega arith)) _ _ refl
+          request-call (1 + n) (whole known h) (omega arith) (read known h 3 (omega arith) (omega arith)) _ _ refl
       performed-call command.StartOver n row known h = absurd (true≢false (sym row))
       performed-call command.JumpAndClose n row known h =
           let one = eqb-true n 1 row in
-          entered-call 2 (close-answers _ _ _) (read known 2 (omega arith) (omega arith))
+          entered-call (1 + n) (whole known h) 2 (omega arith) (close-answers _ _ _) (read known h 2 (omega arith) (omega arith))
       performed-call command.Ping n row known h = absurd (true≢false (sym row))
       performed-call command.SequentialRead n row known h =
           let none = eqb-true n 0 row in
-          goes-on (λ z. omega arith) (read known 1 (omega arith) (omega arith)) (omega arith)
+          goes-on (λ z. omega arith) (read known h (1 + n) (omega arith) (omega arith)) (omega arith) refl
 
-      row-call : (found : Found) → lookedUp (wordAt image (s .offset)) Flash ≡ found → Answered (atRow s m image found)
-      row-call Unknown found = stops refusal.Opcode (ends refusal.Opcode refl)
-      row-call Retired found = stops refusal.Retired (ends refusal.Retired refl)
-      row-call (Known c arguments) found =
-          of-choice Answered _ (λ e. stops refusal.Missing (ends refusal.Missing refl))
+      row-call : (found : Found) → lookedUp (wordAt image (s .offset)) Flash ≡ found → s .offset + 4 ≤ length image → Answered (atRow s m image found)
+      unfolding wordsFrom
+      row-call Unknown found here = stops refusal.Opcode (ends refusal.Opcode refl) (ap (countedOn (s .fetched)) (sym (met-found found here ∙ omega arith)))
+      row-call Retired found here = stops refusal.Retired (ends refusal.Retired refl) (ap (countedOn (s .fetched)) (sym (met-found found here ∙ omega arith)))
+      row-call (Known c arguments) found here =
+          of-choice Answered _
+          (λ e.
+          let short = lacking image _ _ (not-true _ e) in
+          stops refusal.Missing (ends refusal.Missing refl) (ap (countedOn (s .fetched)) (sym (met-found found here ∙ omega arith))))
           (λ e. performed-call c arguments (row-is Flash _ c arguments found) found (there image _ _ (not-false _ e)))
 
 pub every-call : EveryCall
@@ -206,6 +267,7 @@ every-call s m image =
     of-choice Answered _ (λ over. spared s image refusal.Ended refl (λ z. omega arith) (sym over))
     (λ standing. of-choice Answered _ (λ e. spared s image refusal.Memory refl (λ z. omega arith) (sym standing))
     (λ e. of-choice Answered _ (λ e. spared s image refusal.Image refl (λ z. omega arith) (sym standing))
-    (λ sound. of-choice Answered _ (λ e. stops s image standing refusal.Missing (ends refusal.Missing refl))
+    (λ sound. of-choice Answered _ (λ e. stops s image standing refusal.Missing (ends refusal.Missing refl)
+    (counted-none (s .fetched) ∙ ap (countedOn (s .fetched)) (sym (met-none s image (lacking image _ _ (not-true _ e))))))
     (λ e. row-call s image standing m (eqb-true _ _ (both (goodLength (length image)) _ (not-false _ sound) .1))
-    (lookedUp (wordAt image (s .offset)) Flash) refl))))
+    (lookedUp (wordAt image (s .offset)) Flash) refl (there image _ _ (not-false _ e))))))

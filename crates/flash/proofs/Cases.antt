@@ -21,8 +21,8 @@ use Rattle.script.specs.declared.Refusal.the-variants as refusal
 use Rattle.commands.specs.Commands.{multiple, loadJudged, loaded, loadFed, fillDone, fillMemory, settingDone, settingMemory}
 use Rattle.commands.specs.declared.Judged.{Judged}
 use Rattle.flash.specs.Opening.{goodLength}
-use Rattle.flash.specs.Sessions.{_leaving_, goTo, unchanged, stopped, accepted}
-use Rattle.flash.specs.Step.{present, argument, after, loadAt, loadJudgedAs, performed, atRow, stepOf}
+use Rattle.flash.specs.Sessions.{_leaving_, goTo, fetching, unchanged, stopped, accepted}
+use Rattle.flash.specs.Step.{present, wordsFrom, argument, after, loadAt, loadJudgedAs, performed, atRow, stepOf}
 use Rattle.flash.specs.declared.Session.{Session}
 
 -- words that are there, and words that are not
@@ -58,7 +58,7 @@ module _ (s : Session) (m image : List ℕ) where
   pub load-whole : (address size place : ℕ) → s .offset + 12 + 4 * ((size + 3) / 4) ≤ length image
       → loadAt s m image address size place
       ≡ accepted s Nothing
-      (goTo s (pick (s .on) (loadFed (s .register) address (bytesAt image (s .offset + 12) size)) (s .register))
+      (goTo (fetching ((size + 3) / 4) s) (pick (s .on) (loadFed (s .register) address (bytesAt image (s .offset + 12) size)) (s .register))
       (s .offset + 12 + 4 * ((size + 3) / 4)))
       leaving loaded m place (bytesAt image (s .offset + 12) size)
   unfolding loadAt
@@ -84,10 +84,11 @@ module _ (s : Session) (m image : List ℕ) where
 
   -- a row whose argument words are cut short, and one whose words are there
   module _ {found : Found} {command : Command} {words : ℕ} (known : found ≡ Known command words) where
-    pub row-short : length image < s .offset + 4 + 4 * words → atRow s m image found ≡ stopped refusal.Missing s leaving m
+    pub row-short : length image < s .offset + 4 + 4 * words
+        → atRow s m image found ≡ stopped refusal.Missing (fetching (1 + wordsFrom image (s .offset + 4)) s) leaving m
     row-short h = ap (λ (f : Found). atRow s m image f) known ∙ chosen _ _ _ (lacking image (s .offset + 4) words h)
 
-    pub row-whole : s .offset + 4 + 4 * words ≤ length image → atRow s m image found ≡ performed command s m image
+    pub row-whole : s .offset + 4 + 4 * words ≤ length image → atRow s m image found ≡ performed command (fetching (1 + words) s) m image
     row-whole h = ap (λ (f : Found). atRow s m image f) known ∙ passed _ _ _ (there image (s .offset + 4) words h)
 
   -- a call: each refusal in its case, and the command where there is none

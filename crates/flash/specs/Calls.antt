@@ -1,5 +1,5 @@
 -- One law a call, for every session, memory and image: the offset goes forward past the words of the command, back for a retry, or is kept.
-use Prim.Native.Nat.{ℕ, _+_, _*_, _/_, _%_, _≤_, _<_}
+use Prim.Native.Nat.{ℕ, _+_, _*_, _/_, _%_, _≤_, _<_, min}
 use mathlib.Core.Bool.{Bool, true, false, _||_}
 use mathlib.Core.List.{List}
 use mathlib.Core.Logic.{_≢_}
@@ -12,26 +12,43 @@ use Rattle.script.specs.Answers.{numberOf, kindOf}
 use Rattle.script.specs.Opcodes.{lookedUp}
 use Rattle.script.specs.declared.Command.{Command}
 use Rattle.script.specs.declared.Command.the-variants.{Load, Fill, BootTable, Enable, Disable, Request, StartOver, JumpAndClose, Ping, SequentialRead}
-use Rattle.script.specs.declared.Found.the-variants.{Known}
+use Rattle.script.specs.declared.Found.{Found}
+use Rattle.script.specs.declared.Found.the-variants.{Known, Retired, Unknown}
 use Rattle.script.specs.declared.Mode.the-variants.{Flash}
 use Rattle.script.specs.declared.Refusal.{Refusal}
 use Rattle.script.specs.declared.Refusal.the-variants.{None}
-use Rattle.flash.specs.Step.{argument, stepOf}
+use Rattle.flash.specs.Sessions.{countedOn}
+use Rattle.flash.specs.Step.{wordsFrom, argument, stepOf}
 use Rattle.flash.specs.declared.Called.{Called}
 use Rattle.flash.specs.declared.Session.{Session}
 
--- the data words of the command at the session's offset: a load's, by its size
+-- the data bytes of the command at the session's offset: a load's, by its size
+abbrev pub dataBytes : Command → Session → List ℕ → ℕ
+dataBytes Load s image = argument s image 1
+dataBytes Fill s image = 0
+dataBytes BootTable s image = 0
+dataBytes Enable s image = 0
+dataBytes Disable s image = 0
+dataBytes Request s image = 0
+dataBytes StartOver s image = 0
+dataBytes JumpAndClose s image = 0
+dataBytes Ping s image = 0
+dataBytes SequentialRead s image = 0
+
+-- its data words: the bytes padded to whole words
 abbrev pub dataWords : Command → Session → List ℕ → ℕ
-dataWords Load s image = (argument s image 1 + 3) / 4
-dataWords Fill s image = 0
-dataWords BootTable s image = 0
-dataWords Enable s image = 0
-dataWords Disable s image = 0
-dataWords Request s image = 0
-dataWords StartOver s image = 0
-dataWords JumpAndClose s image = 0
-dataWords Ping s image = 0
-dataWords SequentialRead s image = 0
+dataWords command s image = (dataBytes command s image + 3) / 4
+
+-- the argument words of what the table finds
+abbrev pub argumentWords : Found → ℕ
+argumentWords Unknown = 0
+argumentWords Retired = 0
+argumentWords (Known command words) = words
+
+-- the opcode and the argument words of the command at the session's offset that an image has
+unfoldable pub met : Session → List ℕ → ℕ
+met s image =
+    min 1 (wordsFrom image (s .offset)) + min (argumentWords (lookedUp (wordAt image (s .offset)) Flash)) (wordsFrom image (s .offset + 4))
 
 -- the words of the command at the session's offset, all of them in an image of the opening's length: the opcode, the arguments of its row in the table, its data
 pub record Reads (s : Session) (image : List ℕ) (command : Command) (words : ℕ) : Type 0 where
@@ -41,18 +58,19 @@ pub record Reads (s : Session) (image : List ℕ) (command : Command) (words : �
   pub present : s .offset + 4 * words ≤ length image
   pub lent : length image ≡ s .length
 
--- accepted: forward by exactly these words, the retries kept; the session ends exactly where it enters, which Jump & Close alone does
+-- accepted: forward by exactly these words, all of them fetched, the retries kept; the session ends exactly where it enters, which Jump & Close alone does
 pub record Forward (s : Session) (image : List ℕ) (a : Called) : Type 0 where
   pub command : Command
   pub words : ℕ
   pub reads : Reads s image command words
   pub accepted : a .refusal ≡ None
   pub offset : a .session .offset ≡ s .offset + 4 * words
+  pub fetched : a .session .fetched ≡ countedOn (s .fetched) words
   pub retries : a .session .retries ≡ s .retries
   pub ended : a .session .ended ≡ eqb (kindOf (a .event)) 3
   pub entering : kindOf (a .event) ≡ 3 → command ≡ JumpAndClose
 
--- a Request with retries left: back to a multiple of 4 that is at least 4 and below its own offset, and one retry counted
+-- a Request with retries left: back to a multiple of 4 that is at least 4 and below its own offset, its words fetched and one retry counted
 pub record Back (s : Session) (image : List ℕ) (a : Called) : Type 0 where
   pub words : ℕ
   pub reads : Reads s image Request words
@@ -61,6 +79,7 @@ pub record Back (s : Session) (image : List ℕ) (a : Called) : Type 0 where
   pub low : 4 ≤ a .session .offset
   pub below : a .session .offset < s .offset
   pub left : s .retries < s .limit
+  pub fetched : a .session .fetched ≡ countedOn (s .fetched) words
   pub counted : a .session .retries ≡ s .retries + 1
   pub running : a .session .ended ≡ false
 
@@ -68,19 +87,20 @@ pub record Back (s : Session) (image : List ℕ) (a : Called) : Type 0 where
 abbrev pub spares : Refusal → Bool
 spares q = eqb (numberOf q) 2 || eqb (numberOf q) 3 || eqb (numberOf q) 14
 
--- refused: the offset and the retries are kept; a session that is spared is as it was, any other is ended
-pub record Kept (s : Session) (a : Called) : Type 0 where
+-- refused: the offset and the retries are kept; a session that is spared is as it was, any other has fetched the words that are there, and is ended
+pub record Kept (s : Session) (image : List ℕ) (a : Called) : Type 0 where
   pub refused : numberOf (a .refusal) ≢ 0
   pub offset : a .session .offset ≡ s .offset
   pub retries : a .session .retries ≡ s .retries
   pub spared : spares (a .refusal) ≡ true → a .session ≡ s
+  pub fetched : spares (a .refusal) ≡ false → a .session .fetched ≡ countedOn (s .fetched) (met s image)
   pub ended : spares (a .refusal) ≡ false → a .session .ended ≡ true
 
 -- the ways of a call
 pub data Way (s : Session) (image : List ℕ) (a : Called) : Type 0 where
   forward : Forward s image a → Way s image a
   back : Back s image a → Way s image a
-  kept : Kept s a → Way s image a
+  kept : Kept s image a → Way s image a
 
 -- a call goes one of them; windows, length and limit never change, 14 is exactly for an ended session, and the offset is reported, 0 where the session is spared
 pub record Call (s : Session) (image : List ℕ) (a : Called) : Type 0 where

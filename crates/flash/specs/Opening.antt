@@ -25,26 +25,26 @@ goodLength n = multiple n 4 && leb 4 n && leb n longest
 abbrev pub magic : ℕ
 magic = 0x41504954
 
--- a refused opening gives a session that is ended, all else of it zero or off
-abbrev pub refusedBy : Refusal → Opened
-refusedBy q =
+-- a refused opening gives a session that is ended, all else of it zero or off but the count of words fetched
+abbrev pub refusedBy : Refusal → ℕ → Opened
+refusedBy q fetched =
     record {
       refusal = q;
-      session = record { windows = replicate 8 zeroWindow; ended = true; on = false; register = 0; offset = 0; length = 0; limit = 0; retries = 0 };
+      session = record { windows = replicate 8 zeroWindow; ended = true; on = false; register = 0; offset = 0; length = 0; limit = 0; retries = 0; fetched = fetched };
     }
 
--- an accepted one is at the first command: checksum off, register 0, no retry counted
+-- an accepted one is at the first command: checksum off, register 0, no retry counted, the first word fetched
 abbrev pub begun : List Window → ℕ → ℕ → Opened
 begun windows length limit =
     record {
       refusal = None;
-      session = record { windows = windows; ended = false; on = false; register = 0; offset = 4; length = length; limit = limit; retries = 0 };
+      session = record { windows = windows; ended = false; on = false; register = 0; offset = 4; length = length; limit = limit; retries = 0; fetched = 1 };
     }
 
--- the opening: a map, an image and a retry limit
+-- the opening: a map, an image and a retry limit; the first word is fetched once map and length are good
 unfoldable pub openedBy : ℕ → List Window → List ℕ → ℕ → Opened
 openedBy count windows image limit =
-    pick (not (goodMap count windows)) (refusedBy Map)
-    (pick (not (goodLength (length image))) (refusedBy Image)
-    (pick (not (eqb (wordAt image 0) magic)) (refusedBy Magic)
+    pick (not (goodMap count windows)) (refusedBy Map 0)
+    (pick (not (goodLength (length image))) (refusedBy Image 0)
+    (pick (not (eqb (wordAt image 0) magic)) (refusedBy Magic 1)
     (begun (keptOf count windows) (length image) limit)))

@@ -38,7 +38,7 @@ NoWordCut =
 
 -- that an opening leads there is needed: a session value at offset 6, lent two words, looks for its opcode where they are cut; it answers 5 too
 abbrev pub atSix : Session
-atSix = record { windows = replicate 8 zeroWindow; ended = false; on = false; register = 0; offset = 6; length = 8; limit = 0; retries = 0 }
+atSix = record { windows = replicate 8 zeroWindow; ended = false; on = false; register = 0; offset = 6; length = 8; limit = 0; retries = 0; fetched = 0 }
 
 abbrev pub twoWords : List ℕ
 twoWords = replicate 8 0

@@ -1,5 +1,5 @@
 -- The flash session, what a call may change in it, and the answers to a call.
-use Prim.Native.Nat.{ℕ, _+_}
+use Prim.Native.Nat.{ℕ, _+_, _-_, min}
 use mathlib.Core.Bool.{Bool, true, false}
 use mathlib.Core.List.{List}
 use Rattle.script.specs.declared.Event.{Event}
@@ -10,8 +10,8 @@ use Rattle.flash.specs.declared.Called.{Called}
 use Rattle.flash.specs.declared.Session.{Session}
 
 -- a session with all that a call may change
-abbrev pub changed : Session → Bool → Bool → ℕ → ℕ → ℕ → Session
-changed s ended on register offset retries =
+abbrev pub changed : Session → Bool → Bool → ℕ → ℕ → ℕ → ℕ → Session
+changed s ended on register offset retries fetched =
     record {
       windows = s .windows;
       ended = ended;
@@ -21,27 +21,36 @@ changed s ended on register offset retries =
       length = s .length;
       limit = s .limit;
       retries = retries;
+      fetched = fetched;
     }
 
 -- ended, all else as it was
 abbrev pub stop : Session → Session
-stop s = changed s true (s .on) (s .register) (s .offset) (s .retries)
+stop s = changed s true (s .on) (s .register) (s .offset) (s .retries) (s .fetched)
 
 -- with another register, going on at another offset
 abbrev pub goTo : Session → ℕ → ℕ → Session
-goTo s register offset = changed s (s .ended) (s .on) register offset (s .retries)
+goTo s register offset = changed s (s .ended) (s .on) register offset (s .retries) (s .fetched)
 
 -- with register 0 at an earlier offset, one retry counted
 abbrev pub goBack : Session → ℕ → Session
-goBack s offset = changed s (s .ended) (s .on) 0 offset (s .retries + 1)
+goBack s offset = changed s (s .ended) (s .on) 0 offset (s .retries + 1) (s .fetched)
 
 -- the checksum on, its register 0, and past the opcode
 abbrev pub switchOn : Session → Session
-switchOn s = changed s (s .ended) true 0 (s .offset + 4) (s .retries)
+switchOn s = changed s (s .ended) true 0 (s .offset + 4) (s .retries) (s .fetched)
 
 -- the checksum off, its register kept, and past the opcode
 abbrev pub switchOff : Session → Session
-switchOff s = changed s (s .ended) false (s .register) (s .offset + 4) (s .retries)
+switchOff s = changed s (s .ended) false (s .register) (s .offset + 4) (s .retries) (s .fetched)
+
+-- a count of words with n more, or with as many as 32 bits still hold: it stays at the largest number
+unfoldable pub countedOn : ℕ → ℕ → ℕ
+countedOn fetched n = fetched + min n (0xFFFFFFFF - fetched)
+
+-- with n words more fetched, all else as it was
+abbrev pub fetching : ℕ → Session → Session
+fetching n s = changed s (s .ended) (s .on) (s .register) (s .offset) (s .retries) (countedOn (s .fetched) n)
 
 -- refused, the session unchanged; no offset is reported
 abbrev pub unchanged : Refusal → Session → Called

@@ -1,5 +1,5 @@
 -- One call of a flash session: one command, judged in the order of document 01.
-use Prim.Native.Nat.{ℕ, _+_, _*_, _/_}
+use Prim.Native.Nat.{ℕ, _+_, _-_, _*_, _/_}
 use mathlib.Core.Bool.{Bool, not, _&&_}
 use mathlib.Core.List.{List}
 use lib.Dec.{leb, eqb}
@@ -23,13 +23,17 @@ use Rattle.commands.specs.declared.Judged.the-variants.{Granted, Refused}
 use Rattle.commands.specs.declared.Sought.{Sought}
 use Rattle.commands.specs.declared.Sought.the-variants as sought
 use Rattle.flash.specs.Opening.{goodLength}
-use Rattle.flash.specs.Sessions.{Outcome, _leaving_, stop, goTo, goBack, switchOn, switchOff, unchanged, stopped, accepted}
+use Rattle.flash.specs.Sessions.{Outcome, _leaving_, stop, goTo, goBack, switchOn, switchOff, fetching, unchanged, stopped, accepted}
 use Rattle.flash.specs.declared.Called.{Called}
 use Rattle.flash.specs.declared.Session.{Session}
 
 -- does the image have n words from an offset on?
 unfoldable pub present : List ℕ → ℕ → ℕ → Bool
 present image at n = leb (at + 4 * n) (length image)
+
+-- the whole words that the image has from an offset on
+unfoldable pub wordsFrom : List ℕ → ℕ → ℕ
+wordsFrom image at = (length image - at) / 4
 
 -- argument word i of the command at the session's offset
 unfoldable pub argument : Session → List ℕ → ℕ → ℕ
@@ -42,12 +46,12 @@ after s done n =
     (accepted s (done .event) (goTo s (done .register) (s .offset + 4 * n)))
     (stopped (done .refusal) s)
 
--- a load granted at a place: 5 for its data, else they are copied and fed
+-- a load granted at a place: 5 for its data, else they are fetched, copied and fed
 unfoldable pub loadAt : Session → List ℕ → List ℕ → ℕ → ℕ → ℕ → Outcome
 loadAt s m image address size place =
     pick (not (present image (s .offset + 12) ((size + 3) / 4))) (stopped refusal.Missing s leaving m)
     (accepted s Nothing
-    (goTo s (pick (s .on) (loadFed (s .register) address (bytesAt image (s .offset + 12) size)) (s .register))
+    (goTo (fetching ((size + 3) / 4) s) (pick (s .on) (loadFed (s .register) address (bytesAt image (s .offset + 12) size)) (s .register))
     (s .offset + 12 + 4 * ((size + 3) / 4)))
     leaving loaded m place (bytesAt image (s .offset + 12) size))
 
@@ -91,13 +95,14 @@ performed command.JumpAndClose s m image =
 performed command.Ping s m image = stopped refusal.Opcode s leaving m
 performed command.SequentialRead s m image = accepted s Nothing (goTo s (s .register) (s .offset + 4)) leaving m
 
--- 6 or 15, then 5 for the arguments
+-- 6 or 15, then 5 for the arguments; the opcode is fetched, and the argument words that are there
 abbrev pub atRow : Session → List ℕ → List ℕ → Found → Outcome
-atRow s m image Unknown = stopped refusal.Opcode s leaving m
-atRow s m image Retired = stopped refusal.Retired s leaving m
+atRow s m image Unknown = stopped refusal.Opcode (fetching 1 s) leaving m
+atRow s m image Retired = stopped refusal.Retired (fetching 1 s) leaving m
 atRow s m image (Known command words) =
-    pick (not (present image (s .offset + 4) words)) (stopped refusal.Missing s leaving m)
-    (performed command s m image)
+    pick (not (present image (s .offset + 4) words))
+    (stopped refusal.Missing (fetching (1 + wordsFrom image (s .offset + 4)) s) leaving m)
+    (performed command (fetching (1 + words) s) m image)
 
 -- a call: 14, 2, 3, then 5 for the opcode
 unfoldable pub stepOf : Session → List ℕ → List ℕ → Outcome

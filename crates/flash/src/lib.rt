@@ -6,7 +6,7 @@ ghost use lib.Dec.{eqb};
 ghost use lib.ListN.{length};
 ghost use Rattle.commands.specs.Commands.{closeDone, soughtFrom};
 ghost use Rattle.flash.specs.Opening.{goodLength, begun, refusedBy, openedBy};
-ghost use Rattle.flash.specs.Sessions.{goTo, switchOn, switchOff, unchanged, stopped, accepted};
+ghost use Rattle.flash.specs.Sessions.{goTo, switchOn, switchOff, countedOn, fetching, unchanged, stopped, accepted};
 ghost use Rattle.flash.specs.Step.{argument, after, loadAt, soughtAs, requested, entered, performed, atRow, stepOf};
 use commands::Done;
 use commands::Judged;
@@ -18,7 +18,7 @@ use script::Mode;
 use script::Refusal;
 use windows::Window;
 
-// A standing flash session. The windows past the map's count are all zero.
+// A standing flash session. The windows past the map's count are all zero; `fetched` counts the words fetched since the opening.
 pub struct Session {
     pub windows: [Window; 8],
     pub ended: bool,
@@ -28,6 +28,7 @@ pub struct Session {
     pub length: u32,
     pub limit: u8,
     pub retries: u8,
+    pub fetched: u32,
 }
 
 pub struct Opened {
@@ -55,13 +56,13 @@ impl Session {
         ensures { λ r. ⌜ r ≡ openedBy count windows (now (image .entry)) limit ⌝ }
     {
         if !windows::is_good(count, windows) {
-            return shut(Refusal::Map);
+            return shut(Refusal::Map, 0);
         }
         if !is_length(image.len()) {
-            return shut(Refusal::Image);
+            return shut(Refusal::Image, 0);
         }
         if words::word_at(image, 0) != Self::MAGIC {
-            return shut(Refusal::Magic);
+            return shut(Refusal::Magic, 1);
         }
         begin(windows::kept(count, windows), image.len() as u32, limit)
     }
@@ -105,6 +106,7 @@ fn begin(windows: [Window; 8], length: u32, limit: u8) -> Opened
             length,
             limit,
             retries: 0,
+            fetched: 1,
         },
     }
 }
@@ -120,7 +122,7 @@ fn is_image(n: usize, length: usize) -> bool
 }
 
 // Is this the length of an image?
-fn is_length(n: usize) -> bool
+pub fn is_length(n: usize) -> bool
     ensures { λ r. ⌜ r ≡ goodLength n ⌝ }
 {
     if n % 4 != 0 {
@@ -133,8 +135,8 @@ fn is_length(n: usize) -> bool
 }
 
 // A refused opening.
-fn shut(refusal: Refusal) -> Opened
-    ensures { λ r. ⌜ r ≡ refusedBy refusal ⌝ }
+fn shut(refusal: Refusal, fetched: u32) -> Opened
+    ensures { λ r. ⌜ r ≡ refusedBy refusal fetched ⌝ }
 {
     let none = Window {
         first: 0,
@@ -152,6 +154,7 @@ fn shut(refusal: Refusal) -> Opened
             length: 0,
             limit: 0,
             retries: 0,
+            fetched,
         },
     }
 }
@@ -206,6 +209,25 @@ fn moved(session: Session, register: u32, offset: u32) -> Session
     next
 }
 
+// A count with so many words more; it stays at the largest number.
+fn count_on(fetched: u32, words: u32) -> u32
+    ensures { λ r. ⌜ r ≡ countedOn fetched words ⌝ }
+{
+    if words <= u32::MAX - fetched {
+        return fetched + words;
+    }
+    u32::MAX
+}
+
+// The session with so many words more fetched.
+fn fetch(session: Session, words: u32) -> Session
+    ensures { λ r. ⌜ r ≡ fetching words session ⌝ }
+{
+    let mut next = session;
+    next.fetched = count_on(session.fetched, words);
+    next
+}
+
 // An argument word of the command at the session's offset.
 fn argument_word(session: Session, image: &[u8], i: u32) -> u32
     ensures { λ r. ⌜ r ≡ argument session (now (image .entry)) i ⌝ }
@@ -241,7 +263,8 @@ fn load_at(
     ensures { λ _. ⌜ now (memory .exit) ≡ loadAt session (now (memory .entry)) (now (image .entry)) address size place .memory ⌝ }
 {
     let from = (session.offset as usize) + 12;
-    let end = from + 4 * (((size as usize) + 3) / 4);
+    let words = ((size as usize) + 3) / 4;
+    let end = from + 4 * words;
     if image.len() < end {
         return halt(Refusal::Missing, session);
     }
@@ -257,7 +280,7 @@ fn load_at(
     proceed(
         session,
         Event::Nothing,
-        moved(session, register, end as u32),
+        moved(fetch(session, words as u32), register, end as u32),
     )
 }
 
@@ -439,19 +462,20 @@ fn perform(command: Command, session: Session, memory: &mut [u8], image: &[u8]) 
 
 // What the table says of the opcode, then the command.
 fn at_row(found: Found, session: Session, memory: &mut [u8], image: &[u8]) -> Called
-    requires { ⌜ (session .offset ≤ 65536) × (length (now image) ≤ 65536) ⌝ }
+    requires { ⌜ (session .offset + 4 ≤ length (now image)) × (length (now image) ≤ 65536) ⌝ }
     ensures { λ r. ⌜ r ≡ atRow session (now (memory .entry)) (now (image .entry)) found .answer ⌝ }
     ensures { λ _. ⌜ now (memory .exit) ≡ atRow session (now (memory .entry)) (now (image .entry)) found .memory ⌝ }
 {
     match found {
-        Found::Unknown => halt(Refusal::Opcode, session),
-        Found::Retired => halt(Refusal::Retired, session),
+        Found::Unknown => halt(Refusal::Opcode, fetch(session, 1)),
+        Found::Retired => halt(Refusal::Retired, fetch(session, 1)),
         Found::Known(command, words) => {
             let from = (session.offset as usize) + 4;
             if image.len() < from + 4 * (words as usize) {
-                return halt(Refusal::Missing, session);
+                let there = (image.len() - from) / 4;
+                return halt(Refusal::Missing, fetch(session, 1 + (there as u32)));
             }
-            perform(command, session, memory, image)
+            perform(command, fetch(session, 1 + words), memory, image)
         }
     }
 }

@@ -46,8 +46,8 @@ use Rattle.modes.specs.Modes.{Alike, Same, wordsAt, Before, sentWith, Sa
 use Rattle.modes.proofs.ImageWords.{data-bytes, words-length}
 
 -- the flash session that is like a sent one
-abbrev like : Core → ℕ → ℕ → ℕ → ℕ → Session
-like k offset length limit retries =
+abbrev like : Core → ℕ → ℕ → ℕ → ℕ → ℕ → Session
+like k offset length limit retries fetched =
     record {
       windows = k .windows;
       ended = k .ended;
@@ -57,9 +57,10 @@ like k offset length limit retries =
       length = length;
       limit = limit;
       retries = retries;
+      fetched = fetched;
     }
 
-alike-like : (s : Session) (k : Core) → Alike s k → s ≡ like k (s .offset) (s .length) (s .limit) (s .retries)
+alike-like : (s : Session) (k : Core) → Alike s k → s ≡ like k (s .offset) (s .length) (s .limit) (s .retries) (s .fetched)
 alike-like s k a =
     λ i. record {
       windows = a .windows i;
@@ -70,6 +71,7 @@ alike-like s k a =
       length = s .length;
       limit = s .limit;
       retries = s .retries;
+      fetched = s .fetched;
     }
 
 -- an argument word, by its place
@@ -88,9 +90,9 @@ entered-same a t left same =
       alike = record { windows = same .alike .windows; ended = refl; on = same .alike .on; register = same .alike .register };
     }
 
-module _ (k : Core) (offset size limit retries : ℕ) where
+module _ (k : Core) (offset size limit retries fetched : ℕ) where
   abbrev s : Session
-  s = like k offset size limit retries
+  s = like k offset size limit retries fetched
 
   -- a command that was judged and done
   done-same : (done : Done) (n : ℕ) (left : List ℕ) → Same (flash._leaving_ (step.after s done n) left) (machine._leaving_ (machine.after k done) left)
@@ -105,25 +107,25 @@ module _ (k : Core) (offset size limit retries : ℕ) where
       go true = record { refusal = refl; event = refl; memory = refl; alike = record { windows = refl; ended = refl; on = refl; register = refl } }
       go false = record { refusal = refl; event = refl; memory = refl; alike = record { windows = refl; ended = refl; on = refl; register = refl } }
 
-module _ (k : Core) (offset size limit retries : ℕ) (m image : List ℕ) (opcode : ℕ) where
+module _ (k : Core) (offset size limit retries fetched : ℕ) (m image : List ℕ) (opcode : ℕ) where
   abbrev session : Session
-  session = like k offset size limit retries
+  session = like k offset size limit retries fetched
 
   -- each command with its words, however these were read
   fill-same : (a b c d : ℕ) → a ≡ argument session image 0 → b ≡ argument session image 1 → c ≡ argument session image 2 → d ≡ argument session image 3
       → Same (step.performed command.Fill session m image) (doneWith opcode command.Fill (begun k) m (a ∷ b ∷ c ∷ d ∷ []))
   unfolding doneAtLast
-  fill-same a b c d p q r t = rw (p, q, r, t) (done-same (asking (begun k) command.Fill 1 _) offset size limit retries _ 5 _)
+  fill-same a b c d p q r t = rw (p, q, r, t) (done-same (asking (begun k) command.Fill 1 _) offset size limit retries fetched _ 5 _)
 
   setting-same : (a b c d : ℕ) → a ≡ argument session image 0 → b ≡ argument session image 1 → c ≡ argument session image 2 → d ≡ argument session image 3
       → Same (step.performed command.BootTable session m image) (doneWith opcode command.BootTable (begun k) m (a ∷ b ∷ c ∷ d ∷ []))
   unfolding doneAtLast
-  setting-same a b c d p q r t = rw (p, q, r, t) (done-same (asking (begun k) command.BootTable 1 _) offset size limit retries _ 5 _)
+  setting-same a b c d p q r t = rw (p, q, r, t) (done-same (asking (begun k) command.BootTable 1 _) offset size limit retries fetched _ 5 _)
 
   close-same : (a : ℕ) → a ≡ argument session image 0
       → Same (step.performed command.JumpAndClose session m image) (doneWith opcode command.JumpAndClose (begun k) m (a ∷ []))
   unfolding doneAtLast
-  close-same a p = rw p (entered-same _ _ m (done-same (asking (begun k) command.JumpAndClose 1 noneKept) offset size limit retries _ 2 m))
+  close-same a p = rw p (entered-same _ _ m (done-same (asking (begun k) command.JumpAndClose 1 noneKept) offset size limit retries fetched _ 2 m))
 
   -- where the words stand in the image
   places : (i at : ℕ) → at ≡ offset + 4 + 4 * i → wordAt image at ≡ argument session image i
@@ -185,10 +187,10 @@ module _ (k : Core) (offset size limit retries : ℕ) (m image : List ℕ) (opco
       (data-bytes image small b (offset + 12) there)))
       (record { refusal = refl; event = refl; memory = refl; alike = record { windows = refl; ended = refl; on = refl; register = refl } })
 
--- a call comes to the command of its row
+-- a call comes to the command of its row, its words fetched
 called : (s : Session) (m image : List ℕ) (k : Core) → Before s m image k → (c : Command) (words : ℕ)
     → lookedUp (wordAt image (s .offset)) Flash ≡ Known c words → s .offset + 4 + 4 * words ≤ length image
-    → stepOf s m image ≡ step.performed c s m image
+    → stepOf s m image ≡ step.performed c (flash.fetching (1 + words) s) m image
 called s m image k b c words known there =
     call-row s m image (b .running) (b .lent) (b .sound) (b .present) ∙ row-whole s m image known there
 
@@ -209,9 +211,9 @@ requested-quiet s expected seek =
     (λ e. of-choice (Quiet s) _ (λ e. record { event = refl; on = refl; register = refl }) (λ e. sought-quiet s (soughtFrom (s .offset) seek)))
 
 -- the three laws, for the flash session that is like the sent one
-module _ (m image : List ℕ) (k : Core) (offset size limit retries : ℕ) (b : Before (like k offset size limit retries) m image k) where
+module _ (m image : List ℕ) (k : Core) (offset size limit retries fetched : ℕ) (b : Before (like k offset size limit retries fetched) m image k) where
   abbrev here : Session
-  here = like k offset size limit retries
+  here = like k offset size limit retries fetched
 
   abbrev word : ℕ
   word = wordAt image offset
@@ -225,11 +227,11 @@ module _ (m image : List ℕ) (k : Core) (offset size limit retries : ℕ) (b : 
       → Same (stepOf here m image) (sentWith here m image k (wordsAt image (offset + 4) words))
   command-like c words other rows there =
       subst₂ Same (sym (called here m image k b c words (rows .in-flash) there)) (sym (sent-done c words (rows .in-sent)))
-      (by-command k offset size limit retries m image word c words other (row-is Flash word c words (rows .in-flash))
+      (by-command k offset size limit retries (flash.countedOn fetched (1 + words)) m image word c words other (row-is Flash word c words (rows .in-flash))
       (row-is Sent word c words (rows .in-sent)))
 
   load-like : RowsOf word command.Load 2 2 → offset + 12 ≤ length image → SameLoad here m image k
-  unfolding wordsAt
+  unfolding wordsAt argument
   load-like rows there =
       let first = argument-at here image 0 (offset + 4) (omega arith) in
       let second = argument-at here image 1 (offset + 4 + 4) (omega arith) in
@@ -237,25 +239,25 @@ module _ (m image : List ℕ) (k : Core) (offset size limit retries : ℕ) (b : 
       let in-sent = sent-done command.Load 2 (rows .in-sent) in
       record {
         refused = λ q judged.
-            subst₂ Same in-flash (sym in-sent) (load-refused-same k offset size limit retries m image word _ _ first second q judged);
+            subst₂ Same in-flash (sym in-sent) (load-refused-same k offset size limit retries (flash.countedOn fetched 3) m image word _ _ first second q judged);
         granted = λ place judged all.
             subst₂ Same in-flash
             (sym
             (after-append (wordStep k m word) (wordsAt image (offset + 4) 2) _
             ∙ ap (λ (o : machine.Outcome). afterWords o (wordsAt image (offset + 12) ((argument here image 1 + 3) / 4))) in-sent))
             (subst
-            (λ (n : ℕ). Same (step.performed command.Load here m image)
+            (λ (n : ℕ). Same (step.performed command.Load (flash.fetching 3 here) m image)
             (afterWords (doneWith word command.Load (begun k) m (wordsAt image (offset + 4) 2)) (wordsAt image (offset + 12) ((n + 3) / 4))))
             second
-            (load-granted-same k offset size limit retries m image word _ _ first second place (rw (first, second) judged) (b .bytes)
+            (load-granted-same k offset size limit retries (flash.countedOn fetched 3) m image word _ _ first second place (rw (first, second) judged) (b .bytes)
             (rw second all)));
       }
 
   request-like : RowsOf word command.Request 2 0 → offset + 12 ≤ length image → RequestByMode here m image k
-  unfolding wordsAt afterWords acknowledging pick step.requested
+  unfolding wordsAt afterWords acknowledging pick argument step.requested
   request-like rows there =
       let in-flash = called here m image k b command.Request 2 (rows .in-flash) (omega arith) in
-      let quiet = requested-quiet here (argument here image 0) (argument here image 1) in
+      let quiet = requested-quiet (flash.fetching 3 here) (argument here image 0) (argument here image 1) in
       let answer = ap (λ (o : flash.Outcome). o .answer) in-flash in
       record {
         sent = sent-done command.Request 0 (rows .in-sent);
@@ -277,16 +279,16 @@ both-modes =
           subst
           (λ (x : Session). Before x m image k → (c : Command) (words : ℕ) → (c ≡ command.Load → ⊥) → RowsOf (wordAt image (x .offset)) c words words
           → x .offset + 4 + 4 * words ≤ length image → Same (stepOf x m image) (sentWith x m image k (wordsAt image (x .offset + 4) words)))
-          (sym (alike-like s k (b .alike))) (command-like m image k (s .offset) (s .length) (s .limit) (s .retries)) b;
+          (sym (alike-like s k (b .alike))) (command-like m image k (s .offset) (s .length) (s .limit) (s .retries) (s .fetched)) b;
       load = λ s m image k b.
           subst
           (λ (x : Session). Before x m image k → RowsOf (wordAt image (x .offset)) command.Load 2 2 → x .offset + 12 ≤ length image → SameLoad x m image k)
-          (sym (alike-like s k (b .alike))) (load-like m image k (s .offset) (s .length) (s .limit) (s .retries)) b;
+          (sym (alike-like s k (b .alike))) (load-like m image k (s .offset) (s .length) (s .limit) (s .retries) (s .fetched)) b;
       request = λ s m image k b.
           subst
           (λ (x : Session). Before x m image k → RowsOf (wordAt image (x .offset)) command.Request 2 0 → x .offset + 12 ≤ length image
           → RequestByMode x m image k)
-          (sym (alike-like s k (b .alike))) (request-like m image k (s .offset) (s .length) (s .limit) (s .retries)) b;
+          (sym (alike-like s k (b .alike))) (request-like m image k (s .offset) (s .length) (s .limit) (s .retries) (s .fetched)) b;
     }
 
 -- the rows, by computing

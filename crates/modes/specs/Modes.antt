@@ -80,11 +80,11 @@ module _ (s : Session) (m image : List ℕ) (k : Core) where
   abbrev pub requestSent : machine.Outcome
   requestSent = said (wordThen (acknowledged opcodeAt) (oneWord (k .tally .register))) (await (begun k) 0 Opcode) leaving m
 
-  -- in flash mode it has two, the expected value and the seek. A match comes to the same; a mismatch goes back or ends the session, as `requested` says,
+  -- in flash mode it has two, the expected value and the seek, and so three words are fetched. A match comes to the same; a mismatch goes back or ends the session, as `requested` says,
   -- and differs in nothing else: memory, event, switch, and the register, which is 0 either way
   pub record RequestByMode : Type 0 where
     pub sent : wordStep k m opcodeAt ≡ requestSent
-    pub answer : stepOf s m image .answer ≡ requested s (argument s image 0) (argument s image 1)
+    pub answer : stepOf s m image .answer ≡ requested (flash.fetching 3 s) (argument s image 0) (argument s image 1)
     pub match : argument s image 0 ≡ s .register → Same (stepOf s m image) requestSent
     pub memory : stepOf s m image .memory ≡ requestSent .memory
     pub event : stepOf s m image .answer .event ≡ requestSent .answer .event

@@ -18,10 +18,10 @@ use Rattle.sent.specs.declared.Core.{Core}
 use Rattle.sent.specs.declared.Phase.the-variants.{Opcode}
 
 pub record JumpRefused : Type 0 where
-  -- a call on it, whatever stands after it in the image, also nothing: 15 at its offset, no event, the session ended and nothing else of it changed
+  -- a call on it, whatever stands after it in the image, also nothing: 15 at its offset, no event, the session ended, its one word counted and nothing else of it changed
   pub called : (s : Session) (m image : List ℕ) → s .ended ≡ false → length m ≡ sumOf (s .windows)
       → (goodLength (length image) && eqb (length image) (s .length)) ≡ true → s .offset + 4 ≤ length image
       → wordAt image (s .offset) ≡ 0x58535905
-      → stepOf s m image ≡ flash._leaving_ (flash.stopped Retired s) m
+      → stepOf s m image ≡ flash._leaving_ (flash.stopped Retired (flash.fetching 1 s)) m
   -- sent: 15, no reply, no event, the core ended and nothing else of it changed, so that it has begun only if it had
   pub sent : (k : Core) (m : List ℕ) → k .stage .phase ≡ Opcode → wordStep k m 0x58535905 ≡ machine._leaving_ (machine.refused k Retired) m

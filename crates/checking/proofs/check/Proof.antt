@@ -4,8 +4,8 @@ use Rattle.checking.specs.Report.{reportOf}
 use Rattle.checking.proofs.check.Statement.{statement}
 use Rattle.checking.proofs.check.Tie as tie
 
-open-requires : tie.Need-open-requires
-open-requires c κs = search needs
+open-on-requires : tie.Need-open-on-requires
+open-on-requires c κs = search needs
 
 answer-to-requires : tie.Need-answer-to-requires
 answer-to-requires c κs = search needs
@@ -15,7 +15,7 @@ report-of-requires c κs = search needs
 
 returns : tie.Need-returns
 unfolding reportOf
-returns c = rw (c .report-of .ensures, c .before .answer-to .ensures, c .before .before .«open» .ensures)
+returns c = rw (c .report-of .ensures, c .before .answer-to .ensures, c .before .before .open-on .ensures)
 
 pub check-spec : {M : Type 1} → statement M
-check-spec = tie.close (tie.spec open-requires answer-to-requires report-of-requires returns)
+check-spec = tie.close (tie.spec open-on-requires answer-to-requires report-of-requires returns)

@@ -23,14 +23,14 @@ cast-from c = search needs
 add-from : tie.Need-add-from
 add-from c = search needs
 
-add-end : tie.Need-add-end
-add-end c = search needs
+add-words : tie.Need-add-words
+add-words c = search needs
 
 mul-end : tie.Need-mul-end
 mul-end c = search needs
 
-add-end-2 : tie.Need-add-end-2
-add-end-2 c = search needs
+add-end : tie.Need-add-end
+add-end c = search needs
 
 halt-requires : tie.Need-halt-requires
 halt-requires c κs = search needs
@@ -56,6 +56,12 @@ part-load-end c = search needs
 load-requires : tie.Need-load-requires
 load-requires c κs = search needs
 
+cast-fetch : tie.Need-cast-fetch
+cast-fetch c = search needs
+
+fetch-requires : tie.Need-fetch-requires
+fetch-requires c κs = search needs
+
 cast-moved : tie.Need-cast-moved
 cast-moved c = search needs
 
@@ -70,10 +76,10 @@ same-length c = search needs
 
 returns-2 : tie.Need-returns-2
 returns-2 c =
-    let a = c .before .before .before .before .before .before .before .before .before .before .before .args in
-    let whole = load-whole (a .session) (now (a .memory)) (now (a .image)) (a .address) (a .size) (a .place) (c .before .before .before .before .before .before .before .if1 .left) in
-    let done = rw (part (now (a .image)) (a .session .offset + 12) (a .size)) at (c .before .before .before .before .load .ensures) in (
-      rw (c .proceed .ensures, c .before .moved .ensures, done .0) (sym (ap (λ (o : Outcome). o .answer) whole)),
+    let a = c .before .before .before .before .before .before .before .before .before .before .before .before .args in
+    let whole = load-whole (a .session) (now (a .memory)) (now (a .image)) (a .address) (a .size) (a .place) (c .before .before .before .before .before .before .before .before .if1 .left) in
+    let done = rw (part (now (a .image)) (a .session .offset + 12) (a .size)) at (c .before .before .before .before .before .load .ensures) in (
+      rw (c .proceed .ensures, c .before .moved .ensures, c .before .before .fetch .ensures, done .0) (sym (ap (λ (o : Outcome). o .answer) whole)),
       done .1 ∙ sym (ap (λ (o : Outcome). o .memory) whole),
     )
 
@@ -83,9 +89,9 @@ load-at-spec =
     (tie.spec
     cast-from
     add-from
-    add-end
+    add-words
     mul-end
-    add-end-2
+    add-end
     halt-requires
     returns
     add-to
@@ -93,6 +99,8 @@ load-at-spec =
     part-load-start
     part-load-end
     load-requires
+    cast-fetch
+    fetch-requires
     cast-moved
     moved-requires
     proceed-requires

@@ -1,0 +1,14 @@
+-- The same whole flash run, asked for the words that it fetched: one number, and the memory that the run leaves.
+use Prim.Native.Nat.{ℕ, _+_, _*_, _^_}
+use mathlib.Core.List.{List}
+use Rattle.script.specs.Answers.{numberOf}
+use Rattle.flash.specs.declared.Called.{Called}
+use Rattle.bench.specs.Runs.{flashRun}
+
+-- an answer in one number: refusal, words fetched since the opening
+unfoldable pub fetchedReport : Called → ℕ
+fetchedReport a = numberOf (a .refusal) * 2 ^ 32 + a .session .fetched
+
+-- the value that the bench gets
+abbrev pub fetchedValue : List ℕ → List ℕ → List ℕ → ℕ → ℕ
+fetchedValue map memory image limit = fetchedReport (flashRun map memory image limit .answer)

@@ -1,0 +1,48 @@
+-- The most words that a boot fetches (02, request 11), for any calls after an opening, whatever is lent to each; and that an image meets it.
+use Prim.Native.Nat.{ℕ, _+_, _*_, _/_, _≤_}
+use mathlib.Core.Bool.{false}
+use mathlib.Core.List.{List, [], _∷_}
+use mathlib.Core.Path.{_≡_}
+use lib.ListN.{length, replicate}
+use Rattle.windows.specs.Map.{zeroWindow}
+use Rattle.windows.specs.declared.Window.{Window}
+use Rattle.flash.specs.Opening.{openedBy}
+use Rattle.flash.specs.Reached.{Reached, opened, called}
+use Rattle.flash.specs.Step.{stepOf}
+use Rattle.flash.specs.declared.Session.{Session}
+use Rattle.runs.specs.Run.{runOf}
+use Rattle.fetches.specs.Fetched.{limitOf}
+
+-- the words of the image that was lent to the opening
+unfoldable pub wordsOf : {s : Session} → Reached s → ℕ
+wordsOf (opened count windows image limit) = length image / 4
+wordsOf (called lent before) = wordsOf before
+
+-- an image of so many words, with a retry limit
+abbrev pub ceiling : ℕ → ℕ → ℕ
+ceiling limit words = (limit + 1) * words
+
+pub record Ceiling : Type 0 where
+  -- while the session runs: the image once for each retry, and the words before the offset
+  pub running : {s : Session} (reached : Reached s) → s .ended ≡ false → s .fetched ≤ s .retries * wordsOf reached + s .offset / 4
+  -- always
+  pub always : {s : Session} (reached : Reached s) → s .fetched ≤ ceiling (limitOf reached) (wordsOf reached)
+  -- so also for a run of one unchanged image
+  pub run : (count : ℕ) (windows : List Window) (image : List ℕ) (limit : ℕ) (m : List ℕ)
+      → runOf (openedBy count windows image limit .session) m image .answer .session .fetched ≤ ceiling limit (length image / 4)
+
+-- an image of three words with no retry: the magic word, a Jump & Close, its address
+abbrev pub threeWords : List ℕ
+threeWords = 0x54 ∷ 0x49 ∷ 0x50 ∷ 0x41 ∷ 0x06 ∷ 0x59 ∷ 0x53 ∷ 0x58 ∷ 0 ∷ 0 ∷ 0 ∷ 0x80 ∷ []
+
+-- it is opened on a window of four bytes, and entered
+abbrev pub atOpening : Session
+atOpening = openedBy 1 (record { first = 0x80000000; length = 4; rights = 7 } ∷ replicate 7 zeroWindow) threeWords 0 .session
+
+abbrev pub atEnd : Session
+atEnd = stepOf atOpening (replicate 4 0) threeWords .answer .session
+
+-- it fetches its three words, which is the ceiling
+pub record CeilingMet : Type 0 where
+  pub fetched : atEnd .fetched ≡ 3
+  pub most : ceiling 0 (length threeWords / 4) ≡ 3
