@@ -1,7 +1,7 @@
-/* The bench entries of the proved loader of boot scripts.
+/* The bench entries of the proved loader of boot scripts: whole sessions and runs, and scripts as text.
 
-   Each takes the map as bytes: 12 for each window, its first address, length and rights as
-   little-endian words. Each takes the memory: the bytes of all windows, one window after another.
+   Those of sessions and runs take the map as bytes: 12 for each window, its first address, length and rights as
+   little-endian words. Each of them takes the memory: the bytes of all windows, one window after another.
    No pointer is null, also where its length is 0, and no two of the stretches overlap. */
 #ifndef AIS_H
 #define AIS_H
@@ -34,6 +34,17 @@ uint64_t ais_flash_run(const uint8_t *map, size_t map_len, uint8_t *memory, size
    Never more words than (limit + 1) * (image_len / 4) are fetched. */
 uint64_t ais_flash_fetched(const uint8_t *map, size_t map_len, uint8_t *memory, size_t memory_len,
                            const uint8_t *image, size_t image_len, uint8_t limit);
+
+/* Reads a text of hexadecimal digits, eight a word and the highest first, into an image of
+   little-endian words. Digits are of either letter case. The value is 0 or the refusal: 21 for a text
+   whose length is no multiple of 8, 22 for a character that is no digit, 23 for an image shorter
+   than half of the text, in this order. */
+uint8_t ais_hex_read(const uint8_t *text, size_t text_len, uint8_t *image, size_t image_len);
+
+/* Writes an image out as such a text, in capitals. The value is 0 or the refusal: 21 for an image
+   whose length is no multiple of 4, 23 for a text shorter than twice the image, in this order.
+   In both, a refusal leaves all of the output as it was, and what lies past the result stays. */
+uint8_t ais_hex_write(const uint8_t *image, size_t image_len, uint8_t *text, size_t text_len);
 
 #ifdef __cplusplus
 }

@@ -2,6 +2,7 @@
 
    benchmark [HIGHEST_RATIO] ends with status 1 when a ratio is above the one given. */
 #include "ais.h"
+#include "plain_hex.h"
 #include "plain_loader.h"
 
 #include <inttypes.h>
@@ -20,10 +21,12 @@ enum { BOOT_TABLE = 0x58535907, FILL = 0x5853590A };
 
 static const uint32_t WINDOW[] = {0x80000000, MEMORY_LENGTH, 7};
 
-/* One piece of work: a script to feed, or an image to run. */
+/* One piece of work: a script to feed, an image to run, a text to read or an image to write as text. */
+enum work_kind { FEED, RUN, READ_TEXT, WRITE_TEXT };
+
 struct work {
     const char *name;
-    bool is_flash;
+    enum work_kind kind;
     unsigned repeats; /* runs in one measurement */
     uint8_t script[SCRIPT_LIMIT];
     size_t length;
@@ -32,6 +35,8 @@ struct work {
 struct loader {
     uint64_t (*sent)(const uint8_t *, size_t, uint8_t *, size_t, const uint8_t *, size_t, uint8_t *, size_t);
     uint64_t (*flash)(const uint8_t *, size_t, uint8_t *, size_t, const uint8_t *, size_t, uint8_t);
+    uint8_t (*read_text)(const uint8_t *, size_t, uint8_t *, size_t);
+    uint8_t (*write_text)(const uint8_t *, size_t, uint8_t *, size_t);
     uint64_t value;
     double seconds[ROUNDS];
 };
@@ -42,8 +47,10 @@ struct lent {
     uint8_t room[ROOM_LENGTH];
 };
 
-static struct loader proved = {.sent = ais_sent_session, .flash = ais_flash_run};
-static struct loader plain = {.sent = plain_sent_session, .flash = plain_flash_run};
+static struct loader proved = {
+    .sent = ais_sent_session, .flash = ais_flash_run, .read_text = ais_hex_read, .write_text = ais_hex_write};
+static struct loader plain = {
+    .sent = plain_sent_session, .flash = plain_flash_run, .read_text = plain_hex_read, .write_text = plain_hex_write};
 static struct lent lent;
 static uint8_t map[sizeof WINDOW];
 
@@ -64,7 +71,7 @@ static void add_word(struct work *work, uint32_t word)
 static void begin_work(struct work *work, const char *name, bool is_flash, bool checksum_on)
 {
     work->name = name;
-    work->is_flash = is_flash;
+    work->kind = is_flash ? RUN : FEED;
     work->length = 0;
     if (is_flash)
         add_word(work, FIRST_WORD);
@@ -128,6 +135,18 @@ static void make_fills(struct work *work, const char *name, uint32_t type)
     end_work(work);
 }
 
+/* A text of changing digits in capitals, or an image of changing bytes. */
+static void make_text(struct work *work, const char *name, enum work_kind kind)
+{
+    uint32_t word = 1;
+
+    work->name = name;
+    work->kind = kind;
+    work->repeats = 20;
+    for (work->length = 0; work->length < SCRIPT_LIMIT; word = word * 1664525 + 1013904223)
+        work->script[work->length++] = kind == READ_TEXT ? (uint8_t)"0123456789ABCDEF"[word >> 28] : (uint8_t)(word >> 24);
+}
+
 /* ---- Measuring ---- */
 
 static double now(void)
@@ -143,7 +162,11 @@ static double measure(struct loader *loader, const struct work *work)
     double begin = now();
 
     for (unsigned count = 0; count < work->repeats; count++) {
-        if (work->is_flash)
+        if (work->kind == READ_TEXT)
+            loader->value = loader->read_text(work->script, work->length, lent.memory, MEMORY_LENGTH);
+        else if (work->kind == WRITE_TEXT)
+            loader->value = loader->write_text(work->script, work->length, lent.room, ROOM_LENGTH);
+        else if (work->kind == RUN)
             loader->value =
                 loader->flash(map, sizeof map, lent.memory, MEMORY_LENGTH, work->script, work->length, 0);
         else
@@ -206,7 +229,7 @@ static double measure_both(const struct work *work)
 
 int main(int argument_count, char **arguments)
 {
-    static struct work works[13];
+    static struct work works[15];
     double allowed = argument_count > 1 ? strtod(arguments[1], NULL) : 1e9, highest = 0;
 
     for (unsigned index = 0; index < 3; index++)
@@ -224,6 +247,8 @@ int main(int argument_count, char **arguments)
     make_short(&works[10], "3,200 flash settings", true, BOOT_TABLE, SHORT_COUNT);
     make_short(&works[11], "3,200 flash fills of one word", true, FILL, SHORT_COUNT);
     make_short(&works[12], "one flash setting", true, BOOT_TABLE, 1);
+    make_text(&works[13], "text of 65,536 digits read", READ_TEXT);
+    make_text(&works[14], "65,536 bytes written as text", WRITE_TEXT);
     printf("%-32s %12s %12s %8s\n", "microseconds, medians", "proved", "plain", "ratio");
     for (unsigned index = 0; index < sizeof works / sizeof *works; index++) {
         double ratio = measure_both(&works[index]);

@@ -5,7 +5,7 @@ use transcripts::runs::Flip;
 use transcripts::runs::Setting;
 
 // As 000's images are run.
-fn at_table(limit: u8, one: Flip, two: Flip) -> Setting {
+pub fn at_table(limit: u8, one: Flip, two: Flip) -> Setting {
     Setting {
         first: 0x1080_0000,
         background: 0xEE,

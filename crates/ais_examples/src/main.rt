@@ -1,6 +1,7 @@
 // The images of source 000 and the examples of 01, in flash and in sent mode; the stored output is what those two say.
 mod cases;
 mod sessions;
+mod texts;
 
 fn main() {
     cases::tables();
@@ -14,4 +15,6 @@ fn main() {
     sessions::ping();
     sessions::retired();
     sessions::table();
+    texts::figures();
+    texts::magic_word();
 }

@@ -6,6 +6,7 @@ ghost use lib.Seq.{sets};
 ghost use Rattle.words.specs.Choice.{pick};
 ghost use Rattle.script.specs.Answers.{numberOf};
 ghost use Rattle.sent.specs.Replies.{sentBytes};
+ghost use Rattle.hex.specs.Text.{readAnswer, readRoom, writeAnswer, writeRoom};
 ghost use Rattle.bench.specs.Feeding.{firstOf, fedAll, greeted, mostFed, openingRoom, byteRoom, roomy, sessionFrom, tallied, laidIn, sentValue, sentMemory, sentRoom};
 ghost use Rattle.bench.specs.Fetched.{fetchedReport, fetchedValue};
 ghost use Rattle.bench.specs.Runs.{ranFrom, reported, flashValue, flashMemory};
@@ -205,4 +206,24 @@ pub extern "C" fn ais_sent_session(
 {
     let opened = sent::Session::open(maps::count_of(map), maps::windows_of(map));
     session_from(opened, memory, fed, room)
+}
+
+// A text of hexadecimal digits read into an image: 0 or the refusal.
+#[no_mangle]
+pub extern "C" fn ais_hex_read(text: &[u8], image: &mut [u8]) -> u8
+    ensures { λ r. ⌜ r ≡ numberOf (readAnswer (now (text .entry)) (now (image .entry))) ⌝ }
+    ensures { λ _. ⌜ now (image .exit) ≡ readRoom (now (text .entry)) (now (image .entry)) ⌝ }
+{
+    let refusal = hex::read(text, image);
+    refusal.number()
+}
+
+// An image written out as text: 0 or the refusal.
+#[no_mangle]
+pub extern "C" fn ais_hex_write(image: &[u8], text: &mut [u8]) -> u8
+    ensures { λ r. ⌜ r ≡ numberOf (writeAnswer (now (image .entry)) (now (text .entry))) ⌝ }
+    ensures { λ _. ⌜ now (text .exit) ≡ writeRoom (now (image .entry)) (now (text .entry)) ⌝ }
+{
+    let refusal = hex::write(image, text);
+    refusal.number()
 }

@@ -45,8 +45,14 @@ use Rattle.port.specs.Port.{isGiven}
 use Rattle.maps.proofs.count_of.Reads as count_of
 use Rattle.maps.proofs.windows_of.Reads as windows_of
 use Rattle.bench.proofs.ais_flash_fetched.Reads as ais_flash_fetched
+use Rattle.hex.proofs.read.Reads as read
+use Rattle.hex.proofs.write.Reads as written
 use Rattle.bench.proofs.ais_flash_run.Reads as ais_flash_run
 use Rattle.bench.proofs.ais_sent_session.Reads as ais_sent_session
+use Rattle.bench.proofs.ais_hex_read.Reads as ais_hex_read
+use Rattle.bench.proofs.ais_hex_write.Reads as ais_hex_write
+use Rattle.conversions.proofs.to_text.Reads as to_text
+use Rattle.conversions.proofs.to_image.Reads as to_image
 use Rattle.port.specs.declared.Told.{Told}
 
 module _ {K : Type 0} {A R E : K → Type 0} (Post : (κs : K) → A κs → R κs → E κs → Type 0) where
@@ -197,6 +203,13 @@ count-of-unique κs a r s e f = same
 pub windows-of-unique : OneResult windows_of.Post
 windows-of-unique κs a r s e f = same
 
+-- hex
+pub hex-read-unique : OneResultAndMemory read.Post (λ κs e. now (e .1 .0))
+hex-read-unique κs a r s e f = both-same
+
+pub hex-write-unique : OneResultAndMemory written.Post (λ κs e. now (e .1 .0))
+hex-write-unique κs a r s e f = both-same
+
 -- bench: the sent entry has a memory and a room
 pub ais-flash-run-unique : OneResultAndMemory ais_flash_run.Post (λ κs e. now (e .1 .0))
 ais-flash-run-unique κs a r s e f = both-same
@@ -207,3 +220,16 @@ ais-flash-fetched-unique κs a r s e f = both-same
 pub ais-sent-session-unique : Coincide ais_sent_session.Post
     (λ κs r s e f. (r ≡ s) × ((now (e .1 .0) ≡ now (f .1 .0)) × (now (e .1 .1 .1 .0) ≡ now (f .1 .1 .1 .0))))
 ais-sent-session-unique κs a r s e f p q = (same (p .0) (q .0), both-same (p .1) (q .1))
+
+pub ais-hex-read-unique : OneResultAndMemory ais_hex_read.Post (λ κs e. now (e .1 .0))
+ais-hex-read-unique κs a r s e f = both-same
+
+pub ais-hex-write-unique : OneResultAndMemory ais_hex_write.Post (λ κs e. now (e .1 .0))
+ais-hex-write-unique κs a r s e f = both-same
+
+-- conversions: besides result and room they promise that the one lies in the other
+pub to-text-unique : OneResultAndMemory to_text.Post (λ κs e. now (e .1 .0))
+to-text-unique κs a r s e f p q = (same (p .0) (q .0), same (p .1 .1) (q .1 .1))
+
+pub to-image-unique : OneResultAndMemory to_image.Post (λ κs e. now (e .1 .0))
+to-image-unique κs a r s e f p q = (same (p .0) (q .0), same (p .1 .1) (q .1 .1))

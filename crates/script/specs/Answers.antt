@@ -24,6 +24,9 @@ numberOf refusal.Ended = 14
 numberOf refusal.Retired = 15
 numberOf refusal.TooWide = 16
 numberOf refusal.Call = 19
+numberOf refusal.Length = 21
+numberOf refusal.Digit = 22
+numberOf refusal.Room = 23
 
 -- an event's kind: 0 nothing, 1 wait, 3 enter an address; 2 was a call, and stays unused
 abbrev pub kindOf : Event → ℕ

@@ -23,6 +23,9 @@ pub enum Refusal {
     Retired,
     TooWide,
     Call,
+    Length,
+    Digit,
+    Room,
 }
 
 impl Refusal {
@@ -48,6 +51,9 @@ impl Refusal {
             Refusal::Retired => 15,
             Refusal::TooWide => 16,
             Refusal::Call => 19,
+            Refusal::Length => 21,
+            Refusal::Digit => 22,
+            Refusal::Room => 23,
         }
     }
 }

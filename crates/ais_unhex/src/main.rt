@@ -1,0 +1,33 @@
+// Writes the image of a text that is read on standard input; a refusal goes to standard error.
+use libc::STDERR_FILENO;
+use libc::STDIN_FILENO;
+use libc::STDOUT_FILENO;
+use script::Refusal;
+
+fn say(text: &[u8]) {
+    io::write_all(STDERR_FILENO, text);
+}
+
+fn put(image: &[u8]) {
+    if !io::write_all(STDOUT_FILENO, image) {
+        say(b"the image can't be written to standard output\n");
+    }
+}
+
+// One word more than the longest text is room enough: what is longer has no room, however long.
+fn main() {
+    let mut text = [0u8; 131080];
+    let n = io::read_full(STDIN_FILENO, &mut text);
+    let mut image = [0u8; 65536];
+    let converted = conversions::to_image(&text[..n], &mut image);
+    let refusal = converted.refusal;
+    let length = converted.length;
+    match refusal {
+        Refusal::None => put(&image[..length]),
+        Refusal::Length => say(b"refusal: 21, the text's length is no multiple of 8\n"),
+        Refusal::Digit => say(
+            b"refusal: 22, the text has a character that is no hexadecimal digit\n",
+        ),
+        _ => say(b"refusal: 23, the text is longer than 131,072 digits\n"),
+    }
+}

@@ -1,0 +1,18 @@
+-- The example holds by computing.
+use mathlib.Core.Path.{refl}
+use Rattle.words.specs.Bits.{join, within}
+use Rattle.words.specs.Bytes.{byte, number}
+use Rattle.words.specs.Choice.{pick}
+use Rattle.hex.specs.Digits.{digitValue, digitOf, digitAt, digitsOf, wordOf, bytesOf}
+use Rattle.hex.specs.Example.{Example}
+use Rattle.hex.specs.Text.{eachWord, imageOf, textOf, allDigits, readAnswer, writeAnswer, laid, leftBy}
+
+pub example : Example
+unfolding join within byte number pick digitValue digitOf digitAt digitsOf wordOf bytesOf eachWord imageOf textOf allDigits readAnswer writeAnswer laid leftBy
+example =
+    record {
+      is-written = (refl, refl);
+      is-read = (refl, refl);
+      small-is-read = (refl, refl);
+      no-byte = refl;
+    }

@@ -1,0 +1,9 @@
+pub mod Accepted
+pub mod Back
+pub mod Digits
+pub mod Example
+pub mod Refusing
+pub mod RoundTrip
+pub mod Texts
+pub mod Turning
+pub mod WordByWord

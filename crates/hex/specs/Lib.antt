@@ -1,0 +1,4 @@
+pub mod Digits
+pub mod Example
+pub mod RoundTrip
+pub mod Text
