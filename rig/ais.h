@@ -1,4 +1,5 @@
-/* The bench entries of the proved loader of boot scripts: whole sessions and runs, and scripts as text.
+/* The bench entries of the proved loader of boot scripts: whole sessions and runs, scripts as text, and the register of
+   option fields.
 
    Those of sessions and runs take the map as bytes: 12 for each window, its first address, length and rights as
    little-endian words. Each of them takes the memory: the bytes of all windows, one window after another.
@@ -45,6 +46,23 @@ uint8_t ais_hex_read(const uint8_t *text, size_t text_len, uint8_t *image, size_
    whose length is no multiple of 4, 23 for a text shorter than twice the image, in this order.
    In both, a refusal leaves all of the output as it was, and what lies past the result stays. */
 uint8_t ais_hex_write(const uint8_t *image, size_t image_len, uint8_t *text, size_t text_len);
+
+/* The register of option fields. Each call is lent its text and reads it anew.
+
+   Reads a text. The value is the refusal times 2^32 plus the number of the refused line, counted from 1: 26 for a line that is malformed or beyond
+   the 200th, 27 for one that clashes with an earlier line. Of a good text it is the count of lines. */
+uint64_t ais_register_read(const uint8_t *text, size_t text_len);
+
+/* Which field a bit of a word is in a release, and since when. The value is the field's first release, and name[0..15] has its name with zeros behind
+   it. Refused, with nothing changed: 23 for a room below 16 bytes, 26 or 27 with its line as above, 28 where no field has the bit in that release,
+   in this order; but for 26 and 27 the line is 0. What lies past 16 bytes is left alone. */
+uint64_t ais_register_bit(const uint8_t *text, size_t text_len, uint32_t word, uint32_t bit, uint32_t release, uint8_t *name, size_t name_len);
+
+/* The one Boot Table command that sets a field, by its name in a release, to a value. The value is 0, and command[0..19] has the five words,
+   little-endian: opcode, type word, address, data, delay. Refused, with nothing changed: 23 for a room below 20 bytes, 26 or 27 with its line, 28
+   where that release has no such field, 16 where the value is too wide for it, in this order. What lies past 20 bytes is left alone. */
+uint64_t ais_register_command(const uint8_t *text, size_t text_len, const uint8_t *name, size_t name_len, uint32_t release, uint32_t value,
+                              uint8_t *command, size_t command_len);
 
 #ifdef __cplusplus
 }

@@ -1,3 +1,4 @@
 pub mod Feeding
 pub mod Fetched
+pub mod Registers
 pub mod Runs

@@ -1,4 +1,6 @@
 // The bench's entries for C: whole sessions on byte slices, answered by one number.
+pub mod registers;
+
 ghost use mathlib.Core.Path.{_≡_};
 ghost use Prim.Native.Nat.{_+_, _*_, _^_, _≤_};
 ghost use lib.ListN.{length};

@@ -1,3 +1,4 @@
 pub mod MarkedExamples
 pub mod TouchingExamples
+pub mod RegisterUniqueness
 pub mod Uniqueness

@@ -71,10 +71,10 @@ module _ {K : Type 0} {A R E : K → Type 0} (Post : (κs : K) → A κs → R �
   OneResultAndMemory memory = Coincide (λ κs r s e f. (r ≡ s) × (memory κs e ≡ memory κs f))
 
 -- two that are one value are equal
-same : {T : Type 0} {x y z : T} → x ≡ z → y ≡ z → x ≡ y
+pub same : {T : Type 0} {x y z : T} → x ≡ z → y ≡ z → x ≡ y
 same p q = p ∙ sym q
 
-both-same : {T U : Type 0} {x y z : T} {k m n : U} → (x ≡ z) × (k ≡ n) → (y ≡ z) × (m ≡ n) → (x ≡ y) × (k ≡ m)
+pub both-same : {T U : Type 0} {x y z : T} {k m n : U} → (x ≡ z) × (k ≡ n) → (y ≡ z) × (m ≡ n) → (x ≡ y) × (k ≡ m)
 both-same p q = (same (p .0) (q .0), same (p .1) (q .1))
 
 -- words

@@ -384,7 +384,7 @@ fn shape_of(word: u32) -> Shape
 }
 
 // Has a value a bit at or above a width?
-fn too_wide(width: u32, value: u32) -> bool
+pub fn too_wide(width: u32, value: u32) -> bool
     ensures { λ r. ⌜ r ≡ tooWide width value ⌝ }
 {
     if width < 32 {

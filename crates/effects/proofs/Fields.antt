@@ -40,10 +40,10 @@ use Rattle.effects.specs.Fields.{NamesField, fieldWidth, fieldAt, Holds,
 use Rattle.effects.proofs.Effects.{setting-refused, setting-granted, bits-tell}
 
 module _ (windows : List Window) (word address value : ℕ) (named : NamesField word) where
-  abbrev field : Shape
+  abbrev pub field : Shape
   field = Bits Four (startOf word) (fieldWidth word) true
 
-  named-shape : shapeOf word ≡ field
+  pub named-shape : shapeOf word ≡ field
   unfolding fieldShape
   named-shape =
       shape-typed word (named .high) ∙ ap (typeShape word) (unit-other (byte word 0) (omega arith))

@@ -32,7 +32,7 @@ module _ (c : ℕ) where
   capital-value h l = passed _ _ _ (above 0x30 10 c (omega arith)) ∙ chosen _ _ _ (inside 0x41 6 c h l)
 
   -- a to f
-  small-value : 0x61 ≤ c → c < 0x67 → digitValue c ≡ c - 0x61 + 10
+  pub small-value : 0x61 ≤ c → c < 0x67 → digitValue c ≡ c - 0x61 + 10
   unfolding digitValue
   small-value h l =
       passed _ _ _ (above 0x30 10 c (omega arith)) ∙ passed _ _ _ (above 0x41 6 c (omega arith)) ∙ chosen _ _ _ (inside 0x61 6 c h l)

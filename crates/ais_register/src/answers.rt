@@ -1,0 +1,131 @@
+// The program's answers, each a line of key=value words.
+use crate::text;
+use register::Found;
+use register::Register;
+use register::Subject;
+
+// A good register.
+pub fn good(register: Register) {
+    text::put(b"register=good lines=");
+    io::print_decimal(libc::STDOUT_FILENO, register.count as u64);
+    text::put(b"\n");
+}
+
+// A refused one, with the line that is refused.
+pub fn refused(bytes: &[u8], number: u8, line: usize) {
+    text::put(b"register=refused line=");
+    io::print_decimal(libc::STDOUT_FILENO, line as u64);
+    text::put(b" ");
+    text::put_refusal(number);
+    text::show_line(bytes, line);
+}
+
+// The field that a bit is in a release, and since when.
+pub fn bit(register: Register, word: u32, bit: u32, release: u32) {
+    let found = register::field_of(register, word, bit, release);
+    if !found.found {
+        return text::put_refusal(28);
+    }
+    let line = found.line;
+    let name = line.name;
+    text::put_name(b"field=", name);
+    text::put_number(b" since=", line.since);
+    text::put(b"\n");
+}
+
+// The releases of a stretch; until=0 has no end.
+fn put_releases(from: u32, last: u32) {
+    text::put_number(b" since=", from);
+    text::put_number(b" until=", last);
+    text::put(b"\n");
+}
+
+// What a bit is in a stretch of releases.
+fn put_field(found: Found) {
+    if !found.found {
+        return text::put(b"field=-");
+    }
+    let line = found.line;
+    let name = line.name;
+    text::put_name(b"field=", name);
+}
+
+// Where a field is in a stretch of releases.
+fn put_place(name: [u8; 16], found: Found) {
+    text::put_name(b"field=", name);
+    if !found.found {
+        return text::put(b" word=- start=- stop=-");
+    }
+    let line = found.line;
+    text::put_word(b" word=", line.word);
+    text::put_number(b" start=", line.start);
+    text::put_number(b" stop=", line.stop);
+}
+
+// One stretch, and the release behind it; 0 where it has no end.
+fn put_stretch(register: Register, subject: Subject, from: u32) -> u32 {
+    let stretch = register::stretch_from(register, subject, from);
+    let found = stretch.found;
+    if subject.named {
+        let name = subject.name;
+        put_place(name, found);
+    } else {
+        put_field(found);
+    }
+    put_releases(from, stretch.last);
+    if stretch.last == 0 {
+        return 0;
+    }
+    if stretch.last == 0xFFFF_FFFF {
+        return 0;
+    }
+    stretch.last + 1
+}
+
+// Each line begins and ends one stretch at most, so there are no more than this.
+const MOST_STRETCHES: usize = 401;
+
+// A subject through all releases.
+pub fn history(register: Register, subject: Subject) {
+    let mut from: u32 = 1;
+    let mut i: usize = 0;
+    while i < MOST_STRETCHES {
+        from = put_stretch(register, subject, from);
+        if from == 0 {
+            return;
+        }
+        i += 1;
+    }
+}
+
+// Where a field was, release by release.
+pub fn field(register: Register, name: &[u8]) {
+    let given = lines::name_of(name);
+    if !given.good {
+        return text::put_refusal(28);
+    }
+    let letters = given.name;
+    let subject = register::the_name(letters);
+    let first = register::stretch_from(register, subject, 1);
+    if !first.found.found && first.last == 0 {
+        return text::put_refusal(28);
+    }
+    history(register, subject);
+}
+
+// The five words of the command that sets a field.
+pub fn setting(register: Register, name: &[u8], release: u32, value: u32) {
+    let made = register::command(register, name, release, value);
+    let refusal = made.refusal;
+    let number = refusal.number();
+    if number != 0 {
+        return text::put_refusal(number);
+    }
+    let words = made.words;
+    text::put_word(b"opcode=", words[0]);
+    text::put_word(b" type=", words[1]);
+    text::put_word(b" address=", words[2]);
+    text::put_word(b" data=", words[3]);
+    text::put_word(b" delay=", words[4]);
+    text::put(b"\n");
+}

@@ -1,0 +1,86 @@
+-- `bench::registers::ais_register_bit` meets its contract: by its two tests; else the line that is found is told.
+use borrow.Author.Needs.{needs}
+use mathlib.Core.Path.{sym, ap, _∙_}
+use Rattle.bench.specs.Registers.{Told, nameTold}
+use Rattle.bench.proofs.RegisterCalls.{no-room, text-refused, answered}
+use Rattle.register.specs.Questions.{fieldOf}
+use Rattle.register.specs.Reading.{readingOf}
+use Rattle.register.proofs.Bounds.{line-low}
+use Rattle.bench.proofs.registers.ais_register_bit.Statement.{statement}
+use Rattle.bench.proofs.registers.ais_register_bit.Tie as tie
+
+refuse-requires : tie.Need-refuse-requires
+refuse-requires c κs = search needs
+
+returns : tie.Need-returns
+returns c =
+    let start = c .before .before .before .before in
+    let short =
+    no-room (readingOf (start .args .text .now)) 16 (start .args .name .now)
+    (nameTold (fieldOf (readingOf (start .args .text .now) .register) (start .args .word) (start .args .bit) (start .args .release)) (start .args .name .now))
+    (c .before .if1 .taken) in (
+      c .refuse .ensures ∙ ap (λ (t : Told). t .value) short,
+      ap (λ (t : Told). t .room) short,
+    )
+
+read-requires : tie.Need-read-requires
+read-requires c κs = search needs
+
+number-requires : tie.Need-number-requires
+number-requires c κs = search needs
+
+read-value-requires : tie.Need-read-value-requires
+read-value-requires c κs = rw (c .before .before .read .ensures) (line-low (c .before .before .before .before .before .before .args .text .now))
+
+returns-2 : tie.Need-returns-2
+returns-2 c =
+    let at-read = c .before .before .before in
+    let after-if1 = at-read .before in
+    let start = after-if1 .before .before .before in
+    let bad =
+    text-refused (readingOf (start .args .text .now)) 16 (start .args .name .now)
+    (nameTold (fieldOf (readingOf (start .args .text .now) .register) (start .args .word) (start .args .bit) (start .args .release)) (start .args .name .now))
+    (after-if1 .if1 .left) (λ e. c .before .if2 .taken (c .before .before .number .ensures ∙ rw (at-read .read .ensures) e)) in (
+      c .read-value .ensures ∙ rw (at-read .read .ensures) (ap (λ (t : Told). t .value) bad),
+      ap (λ (t : Told). t .room) bad,
+    )
+
+field-of-requires : tie.Need-field-of-requires
+field-of-requires c κs = search needs
+
+tell-name-requires : tie.Need-tell-name-requires
+tell-name-requires c κs = search needs
+
+same-length : tie.Need-same-length
+same-length c = search needs
+
+returns-3 : tie.Need-returns-3
+returns-3 c =
+    let at-field-of = c .before .before .before .before in
+    let after-if2 = at-field-of .before .before in
+    let at-number = after-if2 .before in
+    let at-read = at-number .before in
+    let after-if1 = at-read .before in
+    let start = after-if1 .before .before .before in
+    let good =
+    answered (readingOf (start .args .text .now)) 16 (start .args .name .now)
+    (nameTold (fieldOf (readingOf (start .args .text .now) .register) (start .args .word) (start .args .bit) (start .args .release)) (start .args .name .now))
+    (after-if1 .if1 .left) (rw (← at-read .read .ensures) (sym (at-number .number .ensures) ∙ after-if2 .if2 .left)) in (
+      (rw (at-field-of .field-of .ensures, at-read .read .ensures) at (c .before .before .tell-name .ensures .0)) ∙ ap (λ (t : Told). t .value) good,
+      (rw (at-field-of .field-of .ensures, at-read .read .ensures) at (c .before .before .tell-name .ensures .1)) ∙ ap (λ (t : Told). t .room) good,
+    )
+
+pub ais-register-bit-spec : {M : Type 1} → statement M
+ais-register-bit-spec =
+    tie.close
+    (tie.spec
+    refuse-requires
+    returns
+    read-requires
+    number-requires
+    read-value-requires
+    returns-2
+    field-of-requires
+    tell-name-requires
+    same-length
+    returns-3)

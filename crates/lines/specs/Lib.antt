@@ -1,0 +1,4 @@
+pub mod Clashes
+pub mod Lines
+pub mod Pairs
+pub mod Text

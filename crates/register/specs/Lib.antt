@@ -1,0 +1,4 @@
+pub mod Commands
+pub mod Questions
+pub mod Reading
+pub mod Refusals
