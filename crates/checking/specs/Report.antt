@@ -18,6 +18,10 @@ use Rattle.checking.specs.declared.Report.{Report}
 abbrev pub windows : List Window
 windows = record { first = 0x80000000; length = 4096; rights = 7 } ∷ replicate 7 zeroWindow
 
+-- the opening of an image with this window, of one window, and retry limit 0
+abbrev pub opened : List ℕ → Opened
+opened image = openedBy 1 windows image 0
+
 -- what is reported of the last answer: entered where nothing is refused, its entry else 0
 abbrev pub reported : Called → Report
 reported a =
@@ -37,4 +41,4 @@ lastAnswer image o =
     (record { refusal = o .refusal; event = Nothing; at = 0; session = o .session })
 
 unfoldable pub reportOf : List ℕ → Report
-reportOf image = reported (lastAnswer image (openedBy 1 windows image 0))
+reportOf image = reported (lastAnswer image (opened image))

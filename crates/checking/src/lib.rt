@@ -7,7 +7,7 @@ ghost use lib.ListN.{length};
 ghost use Rattle.flash.specs.Opening.{openedBy};
 ghost use Rattle.checking.specs.Counting.{mostOf, countedOf};
 ghost use Rattle.checking.specs.Limit.{small, digit, limitFrom, limitOf};
-ghost use Rattle.checking.specs.Report.{windows, reported, lastAnswer, reportOf};
+ghost use Rattle.checking.specs.Report.{windows, opened, reported, lastAnswer, reportOf};
 use flash::Called;
 use flash::Opened;
 use flash::Session;
@@ -96,6 +96,13 @@ fn open_on(image: &[u8], limit: u8) -> Opened
     };
     let windows = [window, none, none, none, none, none, none, none];
     Session::open(1, windows, image, limit)
+}
+
+// Opens an image for the check program: its window, and no retries.
+pub fn open(image: &[u8]) -> Opened
+    ensures { λ r. ⌜ r ≡ opened (now (image .entry)) ⌝ }
+{
+    open_on(image, 0)
 }
 
 // Opens and runs an image, and reports the end.

@@ -36,6 +36,14 @@ use Rattle.runs.proofs.run.Reads as run
 use Rattle.checking.proofs.check.Reads as check
 use Rattle.checking.proofs.count_fetches.Reads as count_fetches
 use Rattle.checking.proofs.limit_of.Reads as limit_of
+use Rattle.checking.proofs.«open».Reads as check-opening
+use Rattle.survey.proofs.Image.absent.Reads as image-absent
+use Rattle.survey.proofs.Image.of.Reads as image-of
+use Rattle.survey.proofs.Survey.begin.Reads as survey-begin
+use Rattle.survey.proofs.Survey.is_full.Reads as survey-is-full
+use Rattle.survey.proofs.Survey.line.Reads as survey-line
+use Rattle.survey.proofs.Survey.including.Reads as survey-including
+use Rattle.survey.proofs.Survey.totals.Reads as survey-totals
 use Rattle.sent.proofs.Session.«open».Reads as sent-opening
 use Rattle.sent.proofs.Session.step.Reads as sent-step
 use Rattle.sent.proofs.take_word.Reads as take_word
@@ -180,6 +188,31 @@ count-fetches-unique κs a r s e f = same
 
 pub limit-of-unique : OneResult limit_of.Post
 limit-of-unique κs a r s e f = same
+
+pub check-open-unique : OneResult check-opening.Post
+check-open-unique κs a r s e f = same
+
+-- survey
+pub image-absent-unique : OneResult image-absent.Post
+image-absent-unique κs a r s e f = same
+
+pub image-of-unique : OneResult image-of.Post
+image-of-unique κs a r s e f = same
+
+pub survey-begin-unique : OneResult survey-begin.Post
+survey-begin-unique κs a r s e f = same
+
+pub survey-is-full-unique : OneResult survey-is-full.Post
+survey-is-full-unique κs a r s e f = same
+
+pub survey-line-unique : OneResult survey-line.Post
+survey-line-unique κs a r s e f = same
+
+pub survey-including-unique : OneResult survey-including.Post
+survey-including-unique κs a r s e f = same
+
+pub survey-totals-unique : OneResult survey-totals.Post
+survey-totals-unique κs a r s e f = same
 
 -- sent
 pub sent-open-unique : OneResult sent-opening.Post

@@ -1,0 +1,4 @@
+pub mod Images
+pub mod Survey
+pub mod Lists
+pub mod Example
