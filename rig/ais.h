@@ -23,6 +23,12 @@ extern "C" {
 uint64_t ais_sent_session(const uint8_t *map, size_t map_len, uint8_t *memory, size_t memory_len,
                           const uint8_t *fed, size_t n, uint8_t *room, size_t room_len);
 
+/* The same on the 16-bit line: fed_len bytes are n halves, the low byte of each first, and a start
+   half is answered by a half, low byte first too. There is no greeting. The room needs 4 * n bytes,
+   n is at most 65,536, and 19 is also for an odd fed_len. The count is of reply bytes. */
+uint64_t ais_half_session(const uint8_t *map, size_t map_len, uint8_t *memory, size_t memory_len,
+                          const uint8_t *fed, size_t fed_len, uint8_t *room, size_t room_len);
+
 /* Runs one image in flash mode, from its opening to the end of the session, with at most `limit`
    retries. The value is refusal * 2^56 + retries * 2^48 + (offset of the last command / 4) * 2^32
    + the checksum register. Refusal 0 says that the script entered its program. With refusals 1 to 4

@@ -1,11 +1,13 @@
 /* A bench rig: feeds a script file to the loader in sent mode and prints what comes back.
 
-   bench_rig SCRIPT_FILE [FIRST LENGTH RIGHTS]...
+   bench_rig [--halves] SCRIPT_FILE [FIRST LENGTH RIGHTS]...
+   With --halves the file goes by the 16-bit line, two bytes a half, the low one first.
    Without windows the map is one window of 4,096 bytes at 0x80000000 with all rights. Memory begins as zeros.
    The status is 0 when nothing was refused, 1 when something was, 2 when the rig could not run. */
 #include "ais.h"
 
 #include <inttypes.h>
+#include <stdbool.h>
 #include <stdio.h>
 #include <stdlib.h>
 #include <string.h>
@@ -116,7 +118,7 @@ static const char *refusal_text(uint32_t refusal)
     case 14: return "the session had already ended";
     case 15: return "a Jump, which is retired: the script is too old";
     case 16: return "the data do not fit the field";
-    case 19: return "too many bytes, or too little room for replies";
+    case 19: return "too many bytes or halves, half a half, or too little room for replies";
     default: return "a refusal that sent mode does not have";
     }
 }
@@ -160,19 +162,30 @@ static void print_memory(const struct stretch *map, const struct stretch *memory
     printf("%s\n", changed == 0 ? " none" : "");
 }
 
+/* Room for all replies: on either line two bytes for each byte of the script, and the greeting. */
+static uint64_t run_session(bool has_halves, const struct stretch *map, struct stretch *memory,
+                            const struct stretch *script, struct stretch *room)
+{
+    return (has_halves ? ais_half_session : ais_sent_session)(map->bytes, map->length, memory->bytes, memory->length,
+                                                              script->bytes, script->length, room->bytes,
+                                                              room->length);
+}
+
 int main(int argument_count, char **arguments)
 {
+    bool has_halves = argument_count > 1 && strcmp(arguments[1], "--halves") == 0;
     struct stretch script, map, memory, room;
     uint64_t value;
 
+    arguments += has_halves;
+    argument_count -= has_halves;
     if (argument_count < 2)
         stop("give a script file, and perhaps windows: first length rights");
     script = read_file(arguments[1]);
     map = read_map(arguments + 2, argument_count - 2);
     memory = make_memory(&map);
     room = make_stretch(GREETING_LENGTH + 2 * script.length);
-    value = ais_sent_session(map.bytes, map.length, memory.bytes, memory.length, script.bytes, script.length,
-                             room.bytes, room.length);
+    value = run_session(has_halves, &map, &memory, &script, &room);
     print_replies(room.bytes, (uint32_t)value);
     printf("refusal: %" PRIu32 ", %s\n", (uint32_t)(value >> 32), refusal_text((uint32_t)(value >> 32)));
     print_memory(&map, &memory);

@@ -12,6 +12,7 @@
 #include <string.h>
 #include <time.h>
 
+enum mode { BYTES, HALVES, FLASH };
 enum { MEMORY_LENGTH = 65536, SCRIPT_LIMIT = 65536, ROOM_LENGTH = 6 + 2 * SCRIPT_LIMIT };
 enum { ROUNDS = 301, FILL_COUNT = 16, SHORT_COUNT = 3200, LOAD_ROOM = 1024 };
 
@@ -27,13 +28,14 @@ enum work_kind { FEED, RUN, READ_TEXT, WRITE_TEXT };
 struct work {
     const char *name;
     enum work_kind kind;
+    enum mode mode; /* sent by bytes or by halves, or flash */
     unsigned repeats; /* runs in one measurement */
     uint8_t script[SCRIPT_LIMIT];
     size_t length;
 };
 
 struct loader {
-    uint64_t (*sent)(const uint8_t *, size_t, uint8_t *, size_t, const uint8_t *, size_t, uint8_t *, size_t);
+    uint64_t (*sent[FLASH])(const uint8_t *, size_t, uint8_t *, size_t, const uint8_t *, size_t, uint8_t *, size_t);
     uint64_t (*flash)(const uint8_t *, size_t, uint8_t *, size_t, const uint8_t *, size_t, uint8_t);
     uint8_t (*read_text)(const uint8_t *, size_t, uint8_t *, size_t);
     uint8_t (*write_text)(const uint8_t *, size_t, uint8_t *, size_t);
@@ -47,10 +49,14 @@ struct lent {
     uint8_t room[ROOM_LENGTH];
 };
 
-static struct loader proved = {
-    .sent = ais_sent_session, .flash = ais_flash_run, .read_text = ais_hex_read, .write_text = ais_hex_write};
-static struct loader plain = {
-    .sent = plain_sent_session, .flash = plain_flash_run, .read_text = plain_hex_read, .write_text = plain_hex_write};
+static struct loader proved = {.sent = {ais_sent_session, ais_half_session},
+                               .flash = ais_flash_run,
+                               .read_text = ais_hex_read,
+                               .write_text = ais_hex_write};
+static struct loader plain = {.sent = {plain_sent_session, plain_half_session},
+                              .flash = plain_flash_run,
+                              .read_text = plain_hex_read,
+                              .write_text = plain_hex_write};
 static struct lent lent;
 static uint8_t map[sizeof WINDOW];
 
@@ -68,14 +74,17 @@ static void add_word(struct work *work, uint32_t word)
     work->length += 4;
 }
 
-static void begin_work(struct work *work, const char *name, bool is_flash, bool checksum_on)
+static void begin_work(struct work *work, const char *name, enum mode mode, bool checksum_on)
 {
     work->name = name;
-    work->kind = is_flash ? RUN : FEED;
+    work->kind = mode == FLASH ? RUN : FEED;
+    work->mode = mode;
     work->length = 0;
-    if (is_flash)
+    if (mode == FLASH)
         add_word(work, FIRST_WORD);
-    else
+    if (mode == HALVES)
+        work->script[work->length++] = 0x53;
+    if (mode != FLASH)
         work->script[work->length++] = 0x58;
     if (checksum_on)
         add_word(work, ENABLE);
@@ -88,12 +97,12 @@ static void end_work(struct work *work)
 }
 
 /* One long load of changing words. */
-static void make_load(struct work *work, const char *name, bool is_flash, bool checksum_on)
+static void make_load(struct work *work, const char *name, enum mode mode, bool checksum_on)
 {
     uint32_t size = SCRIPT_LIMIT - LOAD_ROOM, word = 1;
 
-    begin_work(work, name, is_flash, checksum_on);
-    work->repeats = checksum_on ? 1 : is_flash ? 50 : 4;
+    begin_work(work, name, mode, checksum_on);
+    work->repeats = checksum_on ? 1 : mode == FLASH ? 50 : 4;
     add_word(work, LOAD);
     add_word(work, WINDOW[0]);
     add_word(work, size);
@@ -110,11 +119,11 @@ static void add_command(struct work *work, uint32_t opcode, const uint32_t argum
 }
 
 /* Short commands, each a word further: settings of a three-bit field, or fills of one word. */
-static void make_short(struct work *work, const char *name, bool is_flash, uint32_t opcode, unsigned count)
+static void make_short(struct work *work, const char *name, enum mode mode, uint32_t opcode, unsigned count)
 {
     uint32_t address = WINDOW[0];
 
-    begin_work(work, name, is_flash, false);
+    begin_work(work, name, mode, false);
     work->repeats = 4 * SHORT_COUNT / count;
     for (unsigned index = 0; index < count; index++, address += 4) {
         if (opcode == FILL)
@@ -128,7 +137,7 @@ static void make_short(struct work *work, const char *name, bool is_flash, uint3
 /* Many fills of the whole memory. */
 static void make_fills(struct work *work, const char *name, uint32_t type)
 {
-    begin_work(work, name, true, false);
+    begin_work(work, name, FLASH, false);
     work->repeats = 1;
     for (unsigned count = 0; count < FILL_COUNT; count++)
         add_command(work, FILL, (uint32_t[]){WINDOW[0], MEMORY_LENGTH, type, 0x01234567 * (count + 1)});
@@ -170,8 +179,8 @@ static double measure(struct loader *loader, const struct work *work)
             loader->value =
                 loader->flash(map, sizeof map, lent.memory, MEMORY_LENGTH, work->script, work->length, 0);
         else
-            loader->value = loader->sent(map, sizeof map, lent.memory, MEMORY_LENGTH, work->script, work->length,
-                                         lent.room, ROOM_LENGTH);
+            loader->value = loader->sent[work->mode](map, sizeof map, lent.memory, MEMORY_LENGTH, work->script,
+                                                     work->length, lent.room, ROOM_LENGTH);
     }
     return (now() - begin) / work->repeats;
 }
@@ -229,26 +238,29 @@ static double measure_both(const struct work *work)
 
 int main(int argument_count, char **arguments)
 {
-    static struct work works[15];
+    static struct work works[18];
     double allowed = argument_count > 1 ? strtod(arguments[1], NULL) : 1e9, highest = 0;
 
     for (unsigned index = 0; index < 3; index++)
         put_word(map + 4 * index, WINDOW[index]);
-    make_load(&works[0], "sent load, checksum off", false, false);
-    make_load(&works[1], "sent load, checksum on", false, true);
-    make_load(&works[2], "flash load, checksum off", true, false);
-    make_load(&works[3], "flash load, checksum on", true, true);
-    make_fills(&works[4], "16 fills of 65,536, unit 1", 0);
-    make_fills(&works[5], "16 fills of 65,536, unit 2", 1);
-    make_fills(&works[6], "16 fills of 65,536, unit 4", 2);
-    make_short(&works[7], "3,200 sent settings", false, BOOT_TABLE, SHORT_COUNT);
-    make_short(&works[8], "3,200 sent fills of one word", false, FILL, SHORT_COUNT);
-    make_short(&works[9], "one sent setting", false, BOOT_TABLE, 1);
-    make_short(&works[10], "3,200 flash settings", true, BOOT_TABLE, SHORT_COUNT);
-    make_short(&works[11], "3,200 flash fills of one word", true, FILL, SHORT_COUNT);
-    make_short(&works[12], "one flash setting", true, BOOT_TABLE, 1);
-    make_text(&works[13], "text of 65,536 digits read", READ_TEXT);
-    make_text(&works[14], "65,536 bytes written as text", WRITE_TEXT);
+    make_load(&works[0], "sent load, checksum off", BYTES, false);
+    make_load(&works[1], "sent load, checksum on", BYTES, true);
+    make_load(&works[2], "load by halves, checksum off", HALVES, false);
+    make_load(&works[3], "load by halves, checksum on", HALVES, true);
+    make_load(&works[4], "flash load, checksum off", FLASH, false);
+    make_load(&works[5], "flash load, checksum on", FLASH, true);
+    make_fills(&works[6], "16 fills of 65,536, unit 1", 0);
+    make_fills(&works[7], "16 fills of 65,536, unit 2", 1);
+    make_fills(&works[8], "16 fills of 65,536, unit 4", 2);
+    make_short(&works[9], "3,200 sent settings", BYTES, BOOT_TABLE, SHORT_COUNT);
+    make_short(&works[10], "3,200 sent fills of one word", BYTES, FILL, SHORT_COUNT);
+    make_short(&works[11], "one sent setting", BYTES, BOOT_TABLE, 1);
+    make_short(&works[12], "3,200 settings by halves", HALVES, BOOT_TABLE, SHORT_COUNT);
+    make_short(&works[13], "3,200 flash settings", FLASH, BOOT_TABLE, SHORT_COUNT);
+    make_short(&works[14], "3,200 flash fills of one word", FLASH, FILL, SHORT_COUNT);
+    make_short(&works[15], "one flash setting", FLASH, BOOT_TABLE, 1);
+    make_text(&works[16], "text of 65,536 digits read", READ_TEXT);
+    make_text(&works[17], "65,536 bytes written as text", WRITE_TEXT);
     printf("%-32s %12s %12s %8s\n", "microseconds, medians", "proved", "plain", "ratio");
     for (unsigned index = 0; index < sizeof works / sizeof *works; index++) {
         double ratio = measure_both(&works[index]);

@@ -645,6 +645,21 @@ static void insert_byte(struct writer *writer, size_t place, uint8_t byte)
     writer->length++;
 }
 
+static uint32_t start_unit(const struct writer *writer)
+{
+    return writer->has_halves ? START_HALF : START_WORD;
+}
+
+/* A unit more. By halves it may also be one byte, so that all after it are cut otherwise. */
+static void insert_unit(struct writer *writer, size_t place, uint32_t unit)
+{
+    if (writer->has_halves && chance(&writer->random, 80)) {
+        place -= place % 2;
+        insert_byte(writer, place, (uint8_t)(unit >> 8));
+    }
+    insert_byte(writer, place, (uint8_t)unit);
+}
+
 /* Puts another word in the place of one. */
 static void replace_word(struct writer *writer)
 {
@@ -683,17 +698,19 @@ void damage_script(struct writer *writer)
         replace_word(writer);
         break;
     case 3:
-        writer->length = place;
+        writer->length = place - (writer->has_halves && chance(random, 80) ? place % 2 : 0);
         break;
     case 4: /* a cut near the end */
         place = random_below(random, writer->length < 28 ? (uint32_t)writer->length : 28) + 1;
+        if (writer->has_halves && writer->length > 1)
+            place -= place > 1 && chance(random, 80) ? place % 2 : 0;
         writer->length -= writer->is_flash ? (place + 3) / 4 * 4 % (writer->length + 1) : place;
         break;
     case 5:
         remove_byte(writer, place);
         break;
     default: /* a start word, or another byte, too many */
-        insert_byte(writer, place, chance(random, 60) ? START_WORD : (uint8_t)random_word(random));
+        insert_unit(writer, place, chance(random, 60) ? start_unit(writer) : random_word(random));
         break;
     }
 }
@@ -714,7 +731,7 @@ static void write_commands(struct writer *writer)
         write_flawed_command(writer);
 }
 
-/* Fills the room to its last byte: Requests answer with twice as many bytes as they have. */
+/* Fills the room, but for a greeting, to its last byte: Requests answer with twice as many bytes as they have. */
 static void write_requests_only(struct writer *writer, size_t length)
 {
     while (writer->length + 4 <= length)
@@ -727,7 +744,7 @@ static void write_sent_beginning(struct writer *writer)
 
     if (chance(random, 15)) {
         for (unsigned count = random_below(random, 6); count > 0; count--)
-            write_byte(writer, (uint8_t)random_word(random));
+            write_unit(writer, random_word(random));
     }
     if (!chance(random, 2))
         write_start_words(writer, 1 + (chance(random, 30) ? random_below(random, 5) : 0));
@@ -760,6 +777,8 @@ static void write_large_sent_script(struct writer *writer)
     size_t length = chance(random, 60) ? PICK(random, lengths) : 20000 + random_below(random, 45000);
     uint32_t address, size;
 
+    if (writer->has_halves)
+        length *= 2;
     write_sent_beginning(writer);
     if (chance(random, 30))
         write_requests_only(writer, length);
@@ -867,10 +886,13 @@ static size_t choose_memory_length(struct random_source *random, const struct ma
     }
 }
 
-static size_t choose_room_length(struct random_source *random, size_t fed_length, bool is_wrong)
+/* By halves there is no greeting, and a half has twice the room of a byte: a script needs as many bytes for replies. */
+static size_t choose_room_length(struct random_source *random, const struct writer *script, bool is_wrong)
 {
-    size_t needed = GREETING_LENGTH + 2 * fed_length;
+    size_t needed = (script->has_halves ? 0 : GREETING_LENGTH) + 2 * script->length;
 
+    if (needed == 0)
+        return random_below(random, 200);
     if (is_wrong)
         return chance(random, 50) ? needed - 1 : random_below(random, (uint32_t)needed);
     return chance(random, 80) ? needed : needed + random_below(random, 200);
@@ -900,7 +922,7 @@ void make_case(struct bench_case *bench_case, uint64_t seed, uint64_t number)
     bench_case->number = number;
     choose_map(&random, &bench_case->map, is_large);
     script->random = random_from(seed ^ 0x5343524950543A29, number);
-    begin_script(script, &bench_case->map, is_flash);
+    begin_script(script, &bench_case->map, is_flash, number % 4 == 2);
     if (is_flash && is_large)
         write_large_image(script);
     else if (is_flash)
@@ -914,7 +936,7 @@ void make_case(struct bench_case *bench_case, uint64_t seed, uint64_t number)
     if (is_flash && wrong_percent == 50 && chance(&random, 50))
         break_image_length(script);
     bench_case->memory_length = choose_memory_length(&random, &bench_case->map, chance(&random, wrong_percent));
-    bench_case->room_length = choose_room_length(&random, script->length, chance(&random, wrong_percent));
+    bench_case->room_length = choose_room_length(&random, script, chance(&random, wrong_percent));
     bench_case->limit = choose_limit(&random, script->length);
 }
 
@@ -946,7 +968,7 @@ void print_case(const struct bench_case *bench_case)
     bool is_flash = bench_case->script.is_flash;
 
     printf("seed %" PRIu64 ", case %" PRIu64 ", %s mode\n", bench_case->seed, bench_case->number,
-           is_flash ? "flash" : "sent");
+           is_flash ? "flash" : bench_case->script.has_halves ? "sent (halves)" : "sent (bytes)");
     for (unsigned index = 0; index < map->count; index++)
         printf("window 0x%08" PRIX32 ", length %" PRIu32 ", rights %" PRIu32 "\n", map->windows[index].first,
                map->windows[index].length, map->windows[index].rights);

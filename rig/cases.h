@@ -14,7 +14,8 @@ struct bench_case {
     uint8_t limit;        /* flash mode only */
 };
 
-/* Makes the case of this seed and number: sent mode for even numbers, flash mode for odd ones. */
+/* Makes the case of this seed and number: sent mode for even numbers, by bytes and by halves in turns, flash
+   mode for odd ones. */
 void make_case(struct bench_case *bench_case, uint64_t seed, uint64_t number);
 
 /* The parts that make_case is put together from. */

@@ -86,10 +86,21 @@ static bool guards_hold(const struct lent *lent)
 
 /* ---- Running one loader ---- */
 
+struct loader {
+    sent_entry *bytes;
+    sent_entry *halves;
+    flash_entry *flash;
+};
+
+static const struct loader PROVED = {ais_sent_session, ais_half_session, ais_flash_run};
+static const struct loader COUNTING = {ais_sent_session, ais_half_session, ais_flash_fetched};
+static const struct loader PLAIN = {plain_sent_session, plain_half_session, plain_flash_run};
+
 /* The plain loader gets no guards, so that the sanitizer sees the first byte too far. */
-static void run_loader(const struct bench_case *bench_case, struct outcome *outcome, size_t guard, sent_entry *sent,
-                       flash_entry *flash)
+static void run_loader(const struct bench_case *bench_case, struct outcome *outcome, size_t guard,
+                       const struct loader *loader)
 {
+    sent_entry *sent = bench_case->script.has_halves ? loader->halves : loader->bytes;
     const struct writer *script = &bench_case->script;
 
     outcome->map = lend_copy(bench_case->map.bytes, bench_case->map.length, guard);
@@ -99,8 +110,8 @@ static void run_loader(const struct bench_case *bench_case, struct outcome *outc
     fill_memory(bench_case, outcome->memory.bytes, outcome->memory.length);
     fill_room(bench_case, outcome->room.bytes, outcome->room.length);
     if (script->is_flash)
-        outcome->value = flash(outcome->map.bytes, outcome->map.length, outcome->memory.bytes, outcome->memory.length,
-                               outcome->script.bytes, outcome->script.length, bench_case->limit);
+        outcome->value = loader->flash(outcome->map.bytes, outcome->map.length, outcome->memory.bytes, outcome->memory.length,
+                                       outcome->script.bytes, outcome->script.length, bench_case->limit);
     else
         outcome->value = sent(outcome->map.bytes, outcome->map.length, outcome->memory.bytes, outcome->memory.length,
                               outcome->script.bytes, outcome->script.length, outcome->room.bytes, outcome->room.length);
@@ -187,7 +198,7 @@ static bool same_count(const struct bench_case *bench_case, const struct outcome
     bool is_same;
 
     expected.value = plain->value >> 56 << 32 | plain_fetched;
-    run_loader(bench_case, &counted, GUARD, ais_sent_session, ais_flash_fetched);
+    run_loader(bench_case, &counted, GUARD, &COUNTING);
     is_same = same_outcome(bench_case, &counted, &expected);
     if ((uint32_t)counted.value > ceiling_of(bench_case)) {
         printf("more words were fetched than the ceiling\n");
@@ -199,9 +210,16 @@ static bool same_count(const struct bench_case *bench_case, const struct outcome
 
 /* ---- Counting ---- */
 
+static unsigned mode_of(const struct writer *script)
+{
+    if (script->is_flash)
+        return PLAIN_FLASH;
+    return script->has_halves ? PLAIN_HALVES : PLAIN_BYTES;
+}
+
 static void count_case(struct tally *tally, const struct bench_case *bench_case, uint64_t value)
 {
-    unsigned mode = bench_case->script.is_flash ? PLAIN_FLASH : PLAIN_SENT;
+    unsigned mode = mode_of(&bench_case->script);
     unsigned refusal = (unsigned)(mode == PLAIN_FLASH ? value >> 56 : value >> 32);
 
     tally->cases[mode]++;
@@ -218,33 +236,62 @@ static void count_case(struct tally *tally, const struct bench_case *bench_case,
     }
 }
 
+/* One row of counts, a mode each. */
+static void print_row(const char *name, int width, const uint64_t *counts)
+{
+    printf("%-*s", width, name);
+    for (unsigned mode = 0; mode < PLAIN_MODES; mode++)
+        printf("%10" PRIu64, counts[mode]);
+    printf("\n");
+}
+
+static void print_heading(const char *name, int width)
+{
+    printf("%-*s", width, name);
+    for (unsigned mode = 0; mode < PLAIN_MODES; mode++)
+        printf("%10s", plain_mode_name(mode));
+    printf("\n");
+}
+
 static void print_tally(const struct tally *tally)
 {
-    printf("refusal          sent     flash\n");
-    for (unsigned refusal = 0; refusal < REFUSAL_LIMIT; refusal++)
-        if (tally->refusals[PLAIN_SENT][refusal] + tally->refusals[PLAIN_FLASH][refusal] != 0)
-            printf("%7u    %10" PRIu64 "%10" PRIu64 "\n", refusal, tally->refusals[PLAIN_SENT][refusal],
-                   tally->refusals[PLAIN_FLASH][refusal]);
-    printf("cases      %10" PRIu64 "%10" PRIu64 "\n", tally->cases[PLAIN_SENT], tally->cases[PLAIN_FLASH]);
-    printf("entered    %10" PRIu64 "%10" PRIu64 "\n", tally->entered[PLAIN_SENT], tally->entered[PLAIN_FLASH]);
-    printf("retried    %10s%10" PRIu64 ", of which %" PRIu64 " entered; %" PRIu64 " retries in all\n", "",
+    print_heading("refusal", 11);
+    for (unsigned refusal = 0; refusal < REFUSAL_LIMIT; refusal++) {
+        uint64_t counts[PLAIN_MODES], sum = 0;
+        char name[12];
+        for (unsigned mode = 0; mode < PLAIN_MODES; mode++)
+            sum += counts[mode] = tally->refusals[mode][refusal];
+        snprintf(name, sizeof name, "%7u", refusal);
+        if (sum != 0)
+            print_row(name, 11, counts);
+    }
+    print_row("cases", 11, tally->cases);
+    print_row("entered", 11, tally->entered);
+    printf("retried    %10s%10s%10" PRIu64 ", of which %" PRIu64 " entered; %" PRIu64 " retries in all\n", "", "",
            tally->retried, tally->entered_by_retry, tally->retries);
-    printf("fetched    %10s%10" PRIu64 " words; %" PRIu64 " cases met their ceiling\n\n", "", tally->fetched,
+    printf("fetched    %10s%10s%10" PRIu64 " words; %" PRIu64 " cases met their ceiling\n\n", "", "", tally->fetched,
            tally->at_ceiling);
-    printf("accepted commands           sent     flash\n");
-    for (unsigned kind = 0; kind < PLAIN_COMMANDS; kind++)
-        printf("%-22s%10" PRIu64 "%10" PRIu64 "\n", plain_command_name(kind), plain_accepted[PLAIN_SENT][kind],
-               plain_accepted[PLAIN_FLASH][kind]);
+    print_heading("accepted commands", 22);
+    for (unsigned kind = 0; kind < PLAIN_COMMANDS; kind++) {
+        uint64_t counts[PLAIN_MODES];
+        for (unsigned mode = 0; mode < PLAIN_MODES; mode++)
+            counts[mode] = plain_accepted[mode][kind];
+        print_row(plain_command_name(kind), 22, counts);
+    }
 }
 
 /* Load, Fill and Boot Table have ranges of bytes, and so may lie over a seam; the others never do. */
 static void print_over_seam(void)
 {
-    printf("\naccepted over a seam        sent     flash\n");
-    for (unsigned kind = 0; kind < PLAIN_COMMANDS; kind++)
+    printf("\n");
+    print_heading("accepted over a seam", 22);
+    for (unsigned kind = 0; kind < PLAIN_COMMANDS; kind++) {
+        uint64_t counts[PLAIN_MODES];
+        for (unsigned mode = 0; mode < PLAIN_MODES; mode++)
+            counts[mode] = plain_accepted_over_seam[mode][kind];
         if (plain_command_writes(kind))
-            printf("%-22s%10" PRIu64 "%10" PRIu64 "\n", plain_command_name(kind),
-                   plain_accepted_over_seam[PLAIN_SENT][kind], plain_accepted_over_seam[PLAIN_FLASH][kind]);
+            print_row(plain_command_name(kind), 22, counts);
+    }
 }
 
 static bool all_refusals_met(const struct tally *tally, unsigned mode, const unsigned *refusals, size_t count)
@@ -253,7 +300,7 @@ static bool all_refusals_met(const struct tally *tally, unsigned mode, const uns
 
     for (size_t index = 0; index < count; index++) {
         if (tally->refusals[mode][refusals[index]] == 0) {
-            printf("refusal %u was not met in %s mode\n", refusals[index], mode == PLAIN_FLASH ? "flash" : "sent");
+            printf("refusal %u was not met (%s)\n", refusals[index], plain_mode_name(mode));
             is_met = false;
         }
     }
@@ -268,8 +315,7 @@ static bool all_commands_met(void)
         for (unsigned kind = 0; kind < PLAIN_COMMANDS; kind++) {
             if ((plain_command_allowed(mode, kind) && plain_accepted[mode][kind] == 0) ||
                 (plain_command_writes(kind) && plain_accepted_over_seam[mode][kind] == 0)) {
-                printf("%s was never accepted, or never over a seam, in %s mode\n", plain_command_name(kind),
-                       mode == PLAIN_FLASH ? "flash" : "sent");
+                printf("%s was never accepted, or never over a seam (%s)\n", plain_command_name(kind), plain_mode_name(mode));
                 is_met = false;
             }
         }
@@ -281,8 +327,9 @@ static bool everything_met(const struct tally *tally)
 {
     static const unsigned sent[] = {0, 1, 2, 6, 7, 8, 9, 10, 14, 15, 16, 19};
     static const unsigned flash[] = {0, 1, 2, 3, 4, 5, 6, 7, 8, 9, 10, 11, 12, 15, 16};
-    bool is_met = all_refusals_met(tally, PLAIN_SENT, sent, sizeof sent / sizeof sent[0]);
+    bool is_met = all_refusals_met(tally, PLAIN_BYTES, sent, sizeof sent / sizeof sent[0]);
 
+    is_met &= all_refusals_met(tally, PLAIN_HALVES, sent, sizeof sent / sizeof sent[0]);
     is_met &= all_refusals_met(tally, PLAIN_FLASH, flash, sizeof flash / sizeof flash[0]);
     if (tally->at_ceiling == 0)
         printf("no case met its ceiling\n");
@@ -307,8 +354,8 @@ static bool compare_case(struct bench_case *bench_case, struct tally *tally, uin
     snprintf(crash_notice, sizeof crash_notice, "CRASH, or no end: seed %" PRIu64 ", case %" PRIu64 "\n",
              seed, number);
     alarm(CASE_SECONDS);
-    run_loader(bench_case, &plain, 0, plain_sent_session, plain_flash_run);
-    run_loader(bench_case, &proved, GUARD, ais_sent_session, ais_flash_run);
+    run_loader(bench_case, &plain, 0, &PLAIN);
+    run_loader(bench_case, &proved, GUARD, &PROVED);
     count_case(tally, bench_case, plain.value);
     is_same = same_outcome(bench_case, &proved, &plain);
     if (bench_case->script.is_flash)

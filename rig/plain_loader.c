@@ -32,8 +32,8 @@ enum { WORD_BYTES = 4, ARGUMENT_LIMIT = 4, REPLY_LIMIT = 8, GREETING_LENGTH = 6 
 static const uint32_t FIRST_WORD = 0x41504954;
 static const uint32_t POLYNOMIAL = 0x04C11DB7;
 static const uint64_t ADDRESS_SPACE = (uint64_t)1 << 32;
-static const uint8_t START_WORD = 0x58;
-static const uint8_t START_ANSWER = 0x52;
+static const uint32_t START_BYTE = 0x58, START_HALF = 0x5853;
+static const uint32_t BYTE_ANSWER = 0x52, HALF_ANSWER = 0x5253;
 
 /* ---- Words ---- */
 
@@ -68,21 +68,21 @@ enum { NOT_ALLOWED = -1 };
 
 struct command_row {
     uint32_t opcode;
-    int argument_words[PLAIN_MODES]; /* sent, flash */
+    int sent_words, flash_words; /* how many argument words */
     const char *name;
 };
 
 static const struct command_row COMMANDS[PLAIN_COMMANDS] = {
-    [LOAD] = {0x58535901, {2, 2}, "Load"},
-    [REQUEST] = {0x58535902, {0, 2}, "Request"},
-    [ENABLE] = {0x58535903, {0, 0}, "Enable"},
-    [DISABLE] = {0x58535904, {0, 0}, "Disable"},
-    [JUMP_AND_CLOSE] = {0x58535906, {1, 1}, "Jump & Close"},
-    [BOOT_TABLE] = {0x58535907, {4, 4}, "Boot Table"},
-    [START_OVER] = {0x58535908, {0, NOT_ALLOWED}, "Start-Over"},
-    [FILL] = {0x5853590A, {4, 4}, "Fill"},
-    [PING] = {0x5853590B, {1, NOT_ALLOWED}, "Ping"},
-    [SEQUENTIAL_READ_ENABLE] = {0x58535963, {NOT_ALLOWED, 0}, "Sequential Read Enable"},
+    [LOAD] = {0x58535901, 2, 2, "Load"},
+    [REQUEST] = {0x58535902, 0, 2, "Request"},
+    [ENABLE] = {0x58535903, 0, 0, "Enable"},
+    [DISABLE] = {0x58535904, 0, 0, "Disable"},
+    [JUMP_AND_CLOSE] = {0x58535906, 1, 1, "Jump & Close"},
+    [BOOT_TABLE] = {0x58535907, 4, 4, "Boot Table"},
+    [START_OVER] = {0x58535908, 0, NOT_ALLOWED, "Start-Over"},
+    [FILL] = {0x5853590A, 4, 4, "Fill"},
+    [PING] = {0x5853590B, 1, NOT_ALLOWED, "Ping"},
+    [SEQUENTIAL_READ_ENABLE] = {0x58535963, NOT_ALLOWED, 0, "Sequential Read Enable"},
 };
 
 /* Jump, which no mode takes any more. */
@@ -92,14 +92,26 @@ uint64_t plain_accepted[PLAIN_MODES][PLAIN_COMMANDS];
 uint64_t plain_accepted_over_seam[PLAIN_MODES][PLAIN_COMMANDS];
 uint32_t plain_fetched;
 
+const char *plain_mode_name(unsigned mode)
+{
+    static const char *const names[PLAIN_MODES] = {"bytes", "halves", "flash"};
+
+    return names[mode];
+}
+
 const char *plain_command_name(unsigned kind)
 {
     return COMMANDS[kind].name;
 }
 
+static int argument_words(unsigned mode, unsigned kind)
+{
+    return mode == PLAIN_FLASH ? COMMANDS[kind].flash_words : COMMANDS[kind].sent_words;
+}
+
 int plain_command_allowed(unsigned mode, unsigned kind)
 {
-    return COMMANDS[kind].argument_words[mode] != NOT_ALLOWED;
+    return argument_words(mode, kind) != NOT_ALLOWED;
 }
 
 int plain_command_writes(unsigned kind)
@@ -418,7 +430,7 @@ static enum refusal flash_command(struct flash_run *run)
     refusal = find_command(fetch_word(run, run->offset), PLAIN_FLASH, &command);
     if (refusal != ACCEPTED)
         return refusal;
-    argument_count = (unsigned)COMMANDS[command].argument_words[PLAIN_FLASH];
+    argument_count = (unsigned)argument_words(PLAIN_FLASH, command);
     for (unsigned index = 0; index < argument_count; index++, after += WORD_BYTES) {
         if (run->length - after < WORD_BYTES)
             return IMAGE_TOO_SHORT;
@@ -474,6 +486,7 @@ enum awaiting { AWAITING_OPCODE, AWAITING_ARGUMENT, AWAITING_DATA, AWAITING_ECHO
 
 struct sent_session {
     struct loader loader;
+    unsigned line;     /* by bytes or by halves */
     bool started;      /* the first start word was answered */
     bool acknowledged; /* an opcode was acknowledged */
     uint32_t gathered; /* the bytes of the unfinished word */
@@ -583,26 +596,26 @@ static enum refusal sent_perform_when_complete(struct sent_session *session, str
 {
     enum refusal refusal;
 
-    if (session->argument_count < (unsigned)COMMANDS[session->command].argument_words[PLAIN_SENT]) {
+    if (session->argument_count < (unsigned)argument_words(session->line, session->command)) {
         session->awaiting = AWAITING_ARGUMENT;
         return ACCEPTED;
     }
     session->awaiting = AWAITING_OPCODE;
     refusal = sent_perform(session, reply);
     if (refusal == ACCEPTED)
-        count_accepted(&session->loader, PLAIN_SENT, session->command);
+        count_accepted(&session->loader, session->line, session->command);
     return refusal;
 }
 
 static enum refusal sent_opcode(struct sent_session *session, uint32_t opcode, struct reply *reply)
 {
-    enum refusal refusal = find_command(opcode, PLAIN_SENT, &session->command);
+    enum refusal refusal = find_command(opcode, session->line, &session->command);
 
     if (refusal != ACCEPTED)
         return refusal;
     session->acknowledged = true;
     session->argument_count = 0;
-    reply_word(reply, (opcode & 0x00FFFFFF) | (uint32_t)START_ANSWER << 24);
+    reply_word(reply, (opcode & 0x00FFFFFF) | (uint32_t)0x52 << 24);
     return sent_perform_when_complete(session, reply);
 }
 
@@ -623,22 +636,31 @@ static enum refusal sent_word(struct sent_session *session, uint32_t word, struc
     }
 }
 
-/* Takes one byte from the line. */
-static enum refusal sent_byte(struct sent_session *session, uint8_t byte, struct reply *reply)
+/* The bytes of a unit, on a line. */
+static unsigned unit_bytes(unsigned line)
 {
+    return line == PLAIN_HALVES ? 2 : 1;
+}
+
+/* Takes one unit from the line, a byte or a half. */
+static enum refusal sent_unit(struct sent_session *session, uint32_t unit, struct reply *reply)
+{
+    bool has_halves = session->line == PLAIN_HALVES;
     enum refusal refusal;
 
     reply->count = 0;
     if (session->loader.ended)
         return SESSION_ENDED;
-    if (!session->acknowledged && session->gathered_count == 0 && byte == START_WORD) {
+    if (!session->acknowledged && session->gathered_count == 0 && unit == (has_halves ? START_HALF : START_BYTE)) {
         session->started = true;
-        reply->bytes[reply->count++] = START_ANSWER;
+        reply->count = unit_bytes(session->line);
+        write_low_bytes(reply->bytes, has_halves ? HALF_ANSWER : BYTE_ANSWER, reply->count);
         return ACCEPTED;
     }
     if (!session->started)
         return ACCEPTED;
-    session->gathered |= (uint32_t)byte << (8 * session->gathered_count++);
+    session->gathered |= unit << (8 * session->gathered_count);
+    session->gathered_count += unit_bytes(session->line);
     if (session->gathered_count < WORD_BYTES)
         return ACCEPTED;
     refusal = sent_word(session, session->gathered, reply);
@@ -651,6 +673,16 @@ static enum refusal sent_byte(struct sent_session *session, uint8_t byte, struct
     return refusal;
 }
 
+/* What is fed has to be whole units, at most so many, and the room has to hold all replies that they can have. */
+static bool call_is_right(unsigned line, size_t fed_length, size_t room_length)
+{
+    size_t units = fed_length / unit_bytes(line);
+
+    if (fed_length % unit_bytes(line) != 0 || units > FED_LIMIT)
+        return false;
+    return room_length >= (line == PLAIN_HALVES ? 4 * units : GREETING_LENGTH + 2 * units);
+}
+
 static enum refusal sent_opening(struct sent_session *session, const uint8_t *map, size_t map_length,
                                  size_t memory_length, size_t fed_length, size_t room_length)
 {
@@ -658,28 +690,49 @@ static enum refusal sent_opening(struct sent_session *session, const uint8_t *ma
         return MAP_WRONG;
     if (memory_length != session->loader.map.sum)
         return MEMORY_LENGTH_WRONG;
-    if (fed_length > FED_LIMIT || room_length < GREETING_LENGTH + 2 * fed_length)
-        return CALL_WRONG;
-    return ACCEPTED;
+    return call_is_right(session->line, fed_length, room_length) ? ACCEPTED : CALL_WRONG;
 }
 
-uint64_t plain_sent_session(const uint8_t *map, size_t map_length, uint8_t *memory, size_t memory_length,
-                            const uint8_t *fed, size_t fed_length, uint8_t *room, size_t room_length)
+/* The greeting is for the line of bytes only. */
+static size_t greet(unsigned line, uint8_t *room)
 {
-    struct sent_session session = {.loader = {.memory = memory}};
+    if (line == PLAIN_HALVES)
+        return 0;
+    memcpy(room, "BOOTME", GREETING_LENGTH);
+    return GREETING_LENGTH;
+}
+
+static uint64_t session_on(unsigned line, const uint8_t *map, size_t map_length, uint8_t *memory,
+                           size_t memory_length, const uint8_t *fed, size_t fed_length, uint8_t *room,
+                           size_t room_length)
+{
+    struct sent_session session = {.loader = {.memory = memory}, .line = line};
     enum refusal first_refusal = sent_opening(&session, map, map_length, memory_length, fed_length, room_length);
-    size_t count = GREETING_LENGTH;
+    size_t count;
 
     if (first_refusal != ACCEPTED)
         return (uint64_t)first_refusal << 32;
-    memcpy(room, "BOOTME", GREETING_LENGTH);
-    for (size_t index = 0; index < fed_length; index++) {
+    count = greet(line, room);
+    for (size_t index = 0; index < fed_length; index += unit_bytes(line)) {
         struct reply reply;
-        enum refusal refusal = sent_byte(&session, fed[index], &reply);
+        uint32_t unit = line == PLAIN_HALVES ? fed[index] | (uint32_t)fed[index + 1] << 8 : fed[index];
+        enum refusal refusal = sent_unit(&session, unit, &reply);
         if (first_refusal == ACCEPTED)
             first_refusal = refusal;
         for (unsigned place = 0; place < reply.count; place++)
             room[count++] = reply.bytes[place];
     }
     return (uint64_t)first_refusal << 32 | count;
+}
+
+uint64_t plain_sent_session(const uint8_t *map, size_t map_length, uint8_t *memory, size_t memory_length,
+                            const uint8_t *fed, size_t fed_length, uint8_t *room, size_t room_length)
+{
+    return session_on(PLAIN_BYTES, map, map_length, memory, memory_length, fed, fed_length, room, room_length);
+}
+
+uint64_t plain_half_session(const uint8_t *map, size_t map_length, uint8_t *memory, size_t memory_length,
+                            const uint8_t *fed, size_t fed_length, uint8_t *room, size_t room_length)
+{
+    return session_on(PLAIN_HALVES, map, map_length, memory, memory_length, fed, fed_length, room, room_length);
 }

@@ -1,7 +1,7 @@
 /* Shows through the C call that an abandoned attempt leaves no trace once what it wrote is written again.
 
-   retries COUNT SEED [FIRST] runs COUNT cases of the seed, from case FIRST on. A case is a map, a memory and
-   the bytes of a prefix, an attempt, the commands that follow it and a continuation. They are fed with the
+   retries COUNT SEED [FIRST] runs COUNT cases of the seed, from case FIRST on, those of even numbers by bytes
+   and those of odd numbers by halves. A case is a map, a memory and the bytes of a prefix, an attempt, the commands that follow it and a continuation. They are fed with the
    attempt and without it, and memory, refusal and all replies from the attempt's close on have to agree.
    Then one bit that the attempt wrote is left out of the following commands, and memory has to differ in the
    bits left out, wherever the attempt changed them, and in no others. It ends with status 1 at the first
@@ -41,6 +41,7 @@ struct retry_case {
     struct writer attempt; /* with its close */
     struct writer following;
     struct writer continuation;
+    bool has_halves;
     enum beginning beginning;
     bool is_checked; /* the checksum is on when the attempt begins */
     bool has_request;
@@ -60,6 +61,7 @@ struct outcome {
 
 struct tally {
     uint64_t beginnings[BEGINNINGS];
+    uint64_t by_halves;
     uint64_t checked;
     uint64_t empty;
     uint64_t with_request;
@@ -371,7 +373,8 @@ static void write_prefix(struct retry_case *retry_case)
     struct random_source *random = &writer->random;
 
     for (unsigned count = chance(random, 15) ? random_below(random, 6) : 0; count > 0; count--)
-        write_byte(writer, (uint8_t)(START_WORD + 1 + random_below(random, 255)));
+        write_unit(writer, writer->has_halves ? START_HALF + 1 + random_below(random, 65535)
+                                              : START_WORD + 1 + random_below(random, 255));
     write_start_words(writer, 1 + (chance(random, 20) ? random_below(random, 4) : 0));
     retry_case->beginning = random_below(random, BEGINNINGS);
     if (retry_case->beginning == AFTER_START_WORD)
@@ -431,11 +434,13 @@ static void write_continuation(struct writer *writer)
             write_good_command(writer);
     }
     for (unsigned count = chance(random, 10) ? random_below(random, 20) : 0; count > 0; count--)
-        write_byte(writer, (uint8_t)random_word(random));
+        write_unit(writer, random_word(random));
     if (chance(random, 20))
         write_good_jump_and_close(writer);
     for (unsigned count = chance(random, 40) ? 1 + random_below(random, 3) : 0; count > 0; count--)
         damage_script(writer);
+    if (writer->has_halves) /* whole halves, else the call is refused */
+        writer->length -= writer->length % 2;
 }
 
 static bool may_be_written(const struct map *map)
@@ -449,7 +454,7 @@ static bool may_be_written(const struct map *map)
 static void begin_part(struct retry_case *retry_case, struct writer *writer, uint64_t part)
 {
     writer->random = random_from(retry_case->seed ^ part << 56, retry_case->number);
-    begin_script(writer, &retry_case->map, false);
+    begin_script(writer, &retry_case->map, false, retry_case->has_halves);
 }
 
 static void make_retry_case(struct retry_case *retry_case, uint64_t seed, uint64_t number)
@@ -459,6 +464,7 @@ static void make_retry_case(struct retry_case *retry_case, uint64_t seed, uint64
 
     retry_case->seed = seed;
     retry_case->number = number;
+    retry_case->has_halves = number % 2 != 0;
     do {
         if (is_large)
             make_large_map(&random, &retry_case->map);
@@ -501,9 +507,9 @@ static void feed(const struct retry_case *retry_case, struct outcome *outcome, c
         length += parts[index]->length;
     }
     memcpy(outcome->memory, retry_case->memory, retry_case->memory_length);
-    outcome->value = ais_sent_session(retry_case->map.bytes, retry_case->map.length, outcome->memory,
-                                      retry_case->memory_length, fed, length, outcome->room,
-                                      GREETING_LENGTH + 2 * length);
+    outcome->value = (retry_case->has_halves ? ais_half_session : ais_sent_session)(
+        retry_case->map.bytes, retry_case->map.length, outcome->memory, retry_case->memory_length, fed, length,
+        outcome->room, GREETING_LENGTH + 2 * length);
 }
 
 static uint32_t reply_count(const struct outcome *outcome)
@@ -587,6 +593,7 @@ static bool leaves_no_trace(const struct retry_case *retry_case, struct tally *t
     feed(retry_case, &with, &retry_case->attempt, &retry_case->following, &retry_case->continuation);
     feed(retry_case, &without, NULL, &retry_case->following, &retry_case->continuation);
     tally->beginnings[retry_case->beginning]++;
+    tally->by_halves += retry_case->has_halves;
     tally->checked += retry_case->is_checked;
     tally->empty += retry_case->attempted.count == 0;
     tally->with_request += retry_case->has_request;
@@ -669,11 +676,12 @@ static bool leaves_the_uncovered_bit(struct retry_case *retry_case, struct tally
 
 static void print_tally(const struct tally *tally)
 {
-    static const char *const names[] = {"the start word", "an Enable", "a Request", "a Start-Over"};
+    static const char *const names[] = {"the start unit", "an Enable", "a Request", "a Start-Over"};
     static const char *const kinds[] = {"loads", "fills", "settings"};
 
     for (unsigned index = 0; index < BEGINNINGS; index++)
         printf("attempts after %-24s%10" PRIu64 "\n", names[index], tally->beginnings[index]);
+    printf("%-39s%10" PRIu64 "\n", "attempts by halves, the others by bytes", tally->by_halves);
     printf("%-39s%10" PRIu64 "\n", "attempts with the checksum on", tally->checked);
     printf("%-39s%10" PRIu64 "\n", "attempts with no command", tally->empty);
     printf("%-39s%10" PRIu64 "\n", "attempts with a Request", tally->with_request);
@@ -690,7 +698,7 @@ static void print_tally(const struct tally *tally)
 /* Every beginning, every kind over a seam, and a difference seen in a tenth of the cases. */
 static bool enough_met(const struct tally *tally, uint64_t count)
 {
-    bool is_met = tally->empty > 0 && tally->with_request > 0 && tally->uncovered_seen >= count / 10;
+    bool is_met = tally->by_halves > 0 && tally->empty > 0 && tally->with_request > 0 && tally->uncovered_seen >= count / 10;
 
     for (unsigned index = 0; index < BEGINNINGS; index++)
         is_met &= tally->beginnings[index] > 0;

@@ -129,10 +129,11 @@ static void clear_checksum(struct writer *writer)
 
 /* ---- Scripts ---- */
 
-void begin_script(struct writer *writer, const struct map *map, bool is_flash)
+void begin_script(struct writer *writer, const struct map *map, bool is_flash, bool has_halves)
 {
     writer->map = map;
     writer->is_flash = is_flash;
+    writer->has_halves = has_halves;
     writer->length = 0;
     writer->first_word = 0;
     writer->checksum_on = false;
@@ -152,10 +153,17 @@ void write_word(struct writer *writer, uint32_t word)
         write_byte(writer, (uint8_t)(word >> (8 * index)));
 }
 
+void write_unit(struct writer *writer, uint32_t unit)
+{
+    write_byte(writer, (uint8_t)unit);
+    if (writer->has_halves)
+        write_byte(writer, (uint8_t)(unit >> 8));
+}
+
 void write_start_words(struct writer *writer, unsigned count)
 {
     while (count-- > 0)
-        write_byte(writer, START_WORD);
+        write_unit(writer, writer->has_halves ? START_HALF : START_WORD);
     writer->first_word = writer->length;
 }
 
@@ -330,7 +338,7 @@ uint32_t tricky_word(struct random_source *random)
         OPCODE_LOAD, OPCODE_REQUEST, OPCODE_ENABLE, OPCODE_DISABLE, OPCODE_JUMP, OPCODE_JUMP_AND_CLOSE,
         OPCODE_BOOT_TABLE, OPCODE_START_OVER, OPCODE_FILL, OPCODE_PING, OPCODE_SEQUENTIAL_READ_ENABLE,
         0x52535901, 0x52535903, 0x52535908, 0x5253590B, 0x58585858, 0x52525252, 0x00000058, 0x12345658, 0x58000000,
-        0x00000000, 0x00000001, 0xFFFFFFFF, FIRST_WORD,
+        0x58535853, 0x52535253, 0x00005853, 0x12345853, 0x00000000, 0x00000001, 0xFFFFFFFF, FIRST_WORD,
     };
 
     return chance(random, 70) ? PICK(random, words) : random_word(random);

@@ -61,10 +61,11 @@ enum {
     OPCODE_PING = 0x5853590B,
     OPCODE_SEQUENTIAL_READ_ENABLE = 0x58535963,
     FIRST_WORD = 0x41504954,
-    START_WORD = 0x58
+    START_WORD = 0x58,
+    START_HALF = 0x5853
 };
 
-enum { SCRIPT_LIMIT = 70000, MARK_LIMIT = 32 };
+enum { SCRIPT_LIMIT = 140000, MARK_LIMIT = 32 };
 
 /* A place where a command begins, and what the register would hold if it had been 0 there. */
 struct mark {
@@ -77,6 +78,7 @@ struct writer {
     struct random_source random;
     const struct map *map;
     bool is_flash;
+    bool has_halves; /* sent by halves; a word is the same four bytes as by bytes */
     uint8_t bytes[SCRIPT_LIMIT];
     size_t length;
     size_t first_word; /* where the words begin, after the start word */
@@ -86,9 +88,10 @@ struct writer {
     unsigned mark_count;
 };
 
-void begin_script(struct writer *writer, const struct map *map, bool is_flash);
+void begin_script(struct writer *writer, const struct map *map, bool is_flash, bool has_halves);
 void write_byte(struct writer *writer, uint8_t byte);
 void write_word(struct writer *writer, uint32_t word);
+void write_unit(struct writer *writer, uint32_t unit); /* a byte, or a half, low byte first */
 void write_start_words(struct writer *writer, unsigned count);
 void write_mark(struct writer *writer);
 

@@ -1,4 +1,4 @@
--- What feeding the bytes that are left leads to: each turn of the loops leads to the same end as before it.
+-- What feeding the units that are left leads to: each turn of the loops leads to the same end as before it.
 use Prim.Native.Nat.{ℕ, suc, _+_, _*_, _^_, _≤_, _<_}
 use mathlib.Core.List.{List, [], _∷_, _++_}
 use mathlib.Core.Path.{_≡_, refl, sym, ap, _∙_}
@@ -11,13 +11,14 @@ use lib.ListN.{length, getD, set, take, drop, length-append, length-take}
 use lib.Seq.{sets, sets-eq, drop-cons, drop-length, getD-take}
 use Rattle.words.proofs.Choice.{chosen, passed, by-test}
 use Rattle.script.specs.Answers.{numberOf}
-use Rattle.sent.specs.Line.{Outcome, byteStep}
+use Rattle.sent.specs.Line.{Outcome, unitStep}
 use Rattle.sent.specs.Replies.{sentBytes}
 use Rattle.sent.specs.declared.Answer.{Answer}
+use Rattle.sent.specs.declared.Bus.{Bus}
 use Rattle.sent.specs.declared.Reply.{Reply}
 use Rattle.sent.specs.declared.Session.{Session}
-use Rattle.bench.specs.Feeding.{Fed, unfed, firstOf, joined, fedAll, greeted, openingRoom, byteRoom, tallied, laidIn}
-use Rattle.bench.proofs.Fitting.{replies-fit}
+use Rattle.bench.specs.Feeding.{Fed, unfed, firstOf, joined, fedAll, greeted, openingRoom, unitRoom, tallied, laidIn}
+use Rattle.bench.proofs.Fitting.{nothing-held, replies-fit}
 
 -- storing one list and then another behind it
 sets-append : (a b l : List ℕ) (i : ℕ) → sets l i (a ++ b) ≡ sets (sets l i a) (i + length a) b
@@ -54,7 +55,7 @@ byte-turn room at bytes count i low inside =
 pub all-stored : (room : List ℕ) (at i : ℕ) (bytes : List ℕ) → i ≡ length bytes → sets room at (drop i bytes) ≡ room
 all-stored room at i bytes e = rw (e, drop-length)
 
--- where the bytes that are left come to f: the room, the count, the first refusal and the memory at the end
+-- where the units that are left come to f: the room, the count, the first refusal and the memory at the end
 pub record End : Type 0 where
   pub room : List ℕ
   pub count : ℕ
@@ -70,10 +71,10 @@ reached room count first f =
       memory = f .memory;
     }
 
--- no byte left to feed
-pub all-fed : (s : Session) (m bytes : List ℕ) (i : ℕ) → i ≡ length bytes → fedAll s m (drop i bytes) ≡ unfed 0 m
+-- no unit left to feed
+pub all-fed : (bus : Bus) (s : Session) (m units : List ℕ) (i : ℕ) → i ≡ length units → fedAll bus s m (drop i units) ≡ unfed 0 m
 unfolding fedAll
-all-fed s m bytes i e = rw (e, drop-length)
+all-fed bus s m units i e = rw (e, drop-length)
 
 module _ (room : List ℕ) (count first : ℕ) where
   -- an answer laid down, and what is left after it
@@ -87,31 +88,32 @@ module _ (room : List ℕ) (count first : ℕ) where
       let b = rest .replies in
       rw (sets-append a b room count, length-append a b, first-first first (numberOf (o .answer .refusal)) (rest .refusal), add-assoc count (length a) (length b))
 
-  -- a byte fed
-  pub fed-turn : (s : Session) (m bytes : List ℕ) (i : ℕ) {a : Answer} {after laid : List ℕ} {at next : ℕ} → i < length bytes
-      → a ≡ byteStep s m (getD bytes i 0) .answer → after ≡ byteStep s m (getD bytes i 0) .memory
+  -- a unit fed
+  pub fed-turn : (bus : Bus) (s : Session) (m units : List ℕ) (i : ℕ) {a : Answer} {after laid : List ℕ} {at next : ℕ} → i < length units
+      → a ≡ unitStep bus s m (getD units i 0) .answer → after ≡ unitStep bus s m (getD units i 0) .memory
       → laid ≡ sets room count (sentBytes (a .reply)) → at ≡ count + length (sentBytes (a .reply)) → next ≡ firstOf first (numberOf (a .refusal))
-      → reached laid at next (fedAll (a .session) after (drop (i + 1) bytes)) ≡ reached room count first (fedAll s m (drop i bytes))
+      → reached laid at next (fedAll bus (a .session) after (drop (i + 1) units)) ≡ reached room count first (fedAll bus s m (drop i units))
   unfolding fedAll
-  fed-turn s m bytes i h e f l t n = rw (l, t, n, f, e, add-one, drop-cons bytes i 0 h) (answered (byteStep s m (getD bytes i 0)) _)
+  fed-turn bus s m units i h e f l t n = rw (l, t, n, f, e, add-one, drop-cons units i 0 h) (answered (unitStep bus s m (getD units i 0)) _)
 
 -- the end of a whole session, with the opening's reply laid down before it
-module _ (room₀ : List ℕ) (s : Session) (opening : Reply) (m₀ bytes : List ℕ) (idle : s .line .have ≡ 0)
-    (short : length (sentBytes opening) ≤ openingRoom) (roomy : openingRoom + byteRoom * length bytes ≤ length room₀) where
+module _ (bus : Bus) (room₀ : List ℕ) (s : Session) (opening : Reply) (m₀ units : List ℕ) (idle : s .line .have ≡ 0)
+    (short : length (sentBytes opening) ≤ openingRoom bus) (roomy : openingRoom bus + unitRoom bus * length units ≤ length room₀) where
   abbrev whole : Fed
-  whole = greeted opening (fedAll s m₀ bytes)
+  whole = greeted opening (fedAll bus s m₀ units)
 
   pub delivers : {room m : List ℕ} (count first : ℕ)
-      → reached room count first (unfed 0 m) ≡ reached (sets room₀ 0 (sentBytes opening)) (0 + length (sentBytes opening)) 0 (fedAll s m₀ bytes)
+      → reached room count first (unfed 0 m) ≡ reached (sets room₀ 0 (sentBytes opening)) (0 + length (sentBytes opening)) 0 (fedAll bus s m₀ units)
       → (first * 2 ^ 32 + count ≡ tallied whole) × ((m ≡ whole .memory) × (room ≡ laidIn room₀ whole))
   unfolding reached tallied laidIn
   delivers count first same =
       let greeting : List ℕ = sentBytes opening in
-      let replies = fedAll s m₀ bytes .replies in
+      let replies = fedAll bus s m₀ units .replies in
       let long : length (greeting ++ replies) ≡ length greeting + length replies = length-append greeting replies in
-      let fits : 0 + length (greeting ++ replies) ≤ length room₀ = omega (arith, replies-fit s m₀ bytes) in
+      let held : unitRoom bus * s .line .have ≡ 0 = rw idle (nothing-held bus) in
+      let fits : 0 + length (greeting ++ replies) ≤ length room₀ = omega (arith, replies-fit bus s m₀ units, held) in
       let sum : _ ≡ 0 + length greeting + length replies = ap (λ (e : End). e .count) same in
-      let refused : first ≡ fedAll s m₀ bytes .refusal =
+      let refused : first ≡ fedAll bus s m₀ units .refusal =
       sym (first-none first) ∙ ap (λ (e : End). e .refusal) same ∙ none-first _ in (
         omega arith,
         (

@@ -1,5 +1,5 @@
--- One whole sent session for the bench: from the map's bytes and the bytes fed to one number, the memory and the room for replies.
-use Prim.Native.Nat.{ℕ, _+_, _*_, _^_}
+-- One whole sent session for the bench, on either line: from the map's bytes and the bytes of the units fed to one number, the memory and the room for replies.
+use Prim.Native.Nat.{ℕ, _+_, _*_, _/_, _%_, _^_}
 use mathlib.Core.Bool.{Bool, not, _&&_}
 use mathlib.Core.List.{List, [], _∷_, _++_}
 use lib.Dec.{eqb, leb}
@@ -8,15 +8,18 @@ use Rattle.words.specs.Choice.{pick}
 use Rattle.windows.specs.Window.{sumOf}
 use Rattle.script.specs.Answers.{numberOf}
 use Rattle.script.specs.declared.Refusal.the-variants as refusal
-use Rattle.sent.specs.Line.{Outcome, byteStep}
+use Rattle.sent.specs.Bus.{unitBits, unitsFed}
+use Rattle.sent.specs.Line.{Outcome, unitStep}
 use Rattle.sent.specs.Opening.{openedBy}
 use Rattle.sent.specs.Replies.{sentBytes}
+use Rattle.sent.specs.declared.Bus.{Bus}
+use Rattle.sent.specs.declared.Bus.the-variants.{Bytes, Halves}
 use Rattle.sent.specs.declared.Opened.{Opened}
 use Rattle.sent.specs.declared.Reply.{Reply}
 use Rattle.sent.specs.declared.Session.{Session}
 use Rattle.maps.specs.Map.{windowsOf, countOf}
 
--- what feeding bytes comes to: the reply bytes in order, the number of the first refusal or 0, and the memory that is left
+-- what feeding units comes to: the reply bytes in order, the number of the first refusal or 0, and the memory that is left
 pub record Fed : Type 0 where
   pub replies : List ℕ
   pub refusal : ℕ
@@ -30,7 +33,7 @@ unfed q m = record { replies = []; refusal = q; memory = m }
 unfoldable pub firstOf : ℕ → ℕ → ℕ
 firstOf q r = pick (eqb q 0) r q
 
--- the answer to a byte, and what the bytes after it come to
+-- the answer to a unit, and what the units after it come to
 abbrev pub joined : Outcome → Fed → Fed
 joined o rest =
     record {
@@ -39,41 +42,48 @@ joined o rest =
       memory = rest .memory;
     }
 
--- bytes fed to a session one after the other
-unfoldable pub fedAll : Session → List ℕ → List ℕ → Fed
-fedAll s m [] = unfed 0 m
-fedAll s m (b ∷ bs) = joined (byteStep s m b) (fedAll (byteStep s m b .answer .session) (byteStep s m b .memory) bs)
+-- units fed to a session one after the other
+unfoldable pub fedAll : Bus → Session → List ℕ → List ℕ → Fed
+fedAll bus s m [] = unfed 0 m
+fedAll bus s m (u ∷ us) = joined (unitStep bus s m u) (fedAll bus (unitStep bus s m u .answer .session) (unitStep bus s m u .memory) us)
 
 -- with the opening's reply before the others
 abbrev pub greeted : Reply → Fed → Fed
 greeted reply f = record { replies = sentBytes reply ++ f .replies; refusal = f .refusal; memory = f .memory }
 
--- the most bytes that are fed
+-- the bytes of a unit
+abbrev pub unitBytes : Bus → ℕ
+unitBytes bus = unitBits bus / 8
+
+-- the most units that are fed
 abbrev pub mostFed : ℕ
 mostFed = 65536
 
--- the room that the replies need: for the opening's, and for those to each byte
-abbrev pub openingRoom : ℕ
-openingRoom = 6
+-- the room that the replies need: for the opening's, and for those to each unit
+abbrev pub openingRoom : Bus → ℕ
+openingRoom Bytes = 6
+openingRoom Halves = 0
 
-abbrev pub byteRoom : ℕ
-byteRoom = 2
+abbrev pub unitRoom : Bus → ℕ
+unitRoom Bytes = 2
+unitRoom Halves = 4
 
--- no more bytes are fed, and the room is not shorter
-unfoldable pub roomy : ℕ → ℕ → Bool
-roomy n room = leb n mostFed && leb (openingRoom + byteRoom * n) room
+-- so many lent bytes are whole units, no more units are fed, and the room is not shorter
+unfoldable pub roomy : Bus → ℕ → ℕ → Bool
+roomy bus lent room =
+    eqb (lent % unitBytes bus) 0 && (leb (lent / unitBytes bus) mostFed && leb (openingRoom bus + unitRoom bus * (lent / unitBytes bus)) room)
 
--- a session from its opening: 1, 2, 19, else the bytes are fed
-unfoldable pub sessionFrom : Opened → List ℕ → List ℕ → ℕ → Fed
-sessionFrom o memory bytes room =
+-- a session from its opening: 1, 2, 19, else the units are fed
+unfoldable pub sessionFrom : Bus → Opened → List ℕ → List ℕ → ℕ → Fed
+sessionFrom bus o memory bytes room =
     pick (not (eqb (numberOf (o .refusal)) 0)) (unfed (numberOf (o .refusal)) memory)
     (pick (not (eqb (length memory) (sumOf (o .session .core .windows)))) (unfed (numberOf refusal.Memory) memory)
-    (pick (not (roomy (length bytes) room)) (unfed (numberOf refusal.Call) memory)
-    (greeted (o .reply) (fedAll (o .session) memory bytes))))
+    (pick (not (roomy bus (length bytes) room)) (unfed (numberOf refusal.Call) memory)
+    (greeted (o .reply) (fedAll bus (o .session) memory (unitsFed bus bytes)))))
 
 -- a session on a map's bytes
-abbrev pub sentSession : List ℕ → List ℕ → List ℕ → List ℕ → Fed
-sentSession map memory bytes room = sessionFrom (openedBy (countOf map) (windowsOf map)) memory bytes (length room)
+abbrev pub sentSession : Bus → List ℕ → List ℕ → List ℕ → List ℕ → Fed
+sentSession bus map memory bytes room = sessionFrom bus (openedBy bus (countOf map) (windowsOf map)) memory bytes (length room)
 
 -- the first refusal and the count of reply bytes in one number
 unfoldable pub tallied : Fed → ℕ
@@ -84,13 +94,13 @@ unfoldable pub laidIn : List ℕ → Fed → List ℕ
 laidIn room f = f .replies ++ drop (length (f .replies)) room
 
 -- the value that the bench gets
-abbrev pub sentValue : List ℕ → List ℕ → List ℕ → List ℕ → ℕ
-sentValue map memory bytes room = tallied (sentSession map memory bytes room)
+abbrev pub sentValue : Bus → List ℕ → List ℕ → List ℕ → List ℕ → ℕ
+sentValue bus map memory bytes room = tallied (sentSession bus map memory bytes room)
 
 -- the memory that the session leaves
-abbrev pub sentMemory : List ℕ → List ℕ → List ℕ → List ℕ → List ℕ
-sentMemory map memory bytes room = sentSession map memory bytes room .memory
+abbrev pub sentMemory : Bus → List ℕ → List ℕ → List ℕ → List ℕ → List ℕ
+sentMemory bus map memory bytes room = sentSession bus map memory bytes room .memory
 
 -- the room that it leaves
-abbrev pub sentRoom : List ℕ → List ℕ → List ℕ → List ℕ → List ℕ
-sentRoom map memory bytes room = laidIn room (sentSession map memory bytes room)
+abbrev pub sentRoom : Bus → List ℕ → List ℕ → List ℕ → List ℕ → List ℕ
+sentRoom bus map memory bytes room = laidIn room (sentSession bus map memory bytes room)

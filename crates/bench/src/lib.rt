@@ -2,14 +2,31 @@
 pub mod registers;
 
 ghost use mathlib.Core.Path.{_≡_};
-ghost use Prim.Native.Nat.{_+_, _*_, _^_, _≤_};
+ghost use Prim.Native.Nat.{_+_, _*_, _/_, _%_, _^_, _≤_, _<_};
+ghost use lib.Dec.{eqb};
 ghost use lib.ListN.{length};
 ghost use lib.Seq.{sets};
 ghost use Rattle.words.specs.Choice.{pick};
 ghost use Rattle.script.specs.Answers.{numberOf};
+ghost use Rattle.sent.specs.Bus.{unitsFed};
 ghost use Rattle.sent.specs.Replies.{sentBytes};
 ghost use Rattle.hex.specs.Text.{readAnswer, readRoom, writeAnswer, writeRoom};
-ghost use Rattle.bench.specs.Feeding.{firstOf, fedAll, greeted, mostFed, openingRoom, byteRoom, roomy, sessionFrom, tallied, laidIn, sentValue, sentMemory, sentRoom};
+ghost use Rattle.bench.specs.Feeding.{
+  firstOf,
+  fedAll,
+  greeted,
+  unitBytes,
+  mostFed,
+  openingRoom,
+  unitRoom,
+  roomy,
+  sessionFrom,
+  tallied,
+  laidIn,
+  sentValue,
+  sentMemory,
+  sentRoom,
+};
 ghost use Rattle.bench.specs.Fetched.{fetchedReport, fetchedValue};
 ghost use Rattle.bench.specs.Runs.{ranFrom, reported, flashValue, flashMemory};
 use flash::Called;
@@ -17,15 +34,18 @@ use flash::Opened;
 use flash::Session;
 use script::Event;
 use script::Refusal;
+use sent::Bus;
 use sent::Reply;
 
-// The most bytes that are fed in one call.
+// The most units that are fed in one call.
 const MOST_FED: usize = 65536;
 
-// The room that the opening's reply needs, and that the replies to each byte need.
+// The room that the opening's reply needs, and that the replies to each byte and to each half need.
 const OPENING_ROOM: usize = 6;
 
 const BYTE_ROOM: usize = 2;
+
+const HALF_ROOM: usize = 4;
 
 // An answer in one number: refusal, retries, offset of the last command in words, register.
 fn report(called: Called) -> u64
@@ -125,25 +145,58 @@ fn first_of(first: u8, refusal: Refusal) -> u8
     first
 }
 
-// Feeds all bytes; the replies go to the room, the opening's first.
+// How many units so many lent bytes are.
+fn units_in(bus: Bus, lent: usize) -> usize
+    ensures { λ r. ⌜ r ≡ lent / unitBytes bus ⌝ }
+{
+    match bus {
+        Bus::Bytes => lent,
+        Bus::Halves => lent / 2,
+    }
+}
+
+// Are so many lent bytes whole units?
+fn are_whole(bus: Bus, lent: usize) -> bool
+    ensures { λ r. ⌜ r ≡ eqb (lent % unitBytes bus) 0 ⌝ }
+{
+    match bus {
+        Bus::Bytes => true,
+        Bus::Halves => lent % 2 == 0,
+    }
+}
+
+// The room that an opening and the replies to n units need.
+fn room_for(bus: Bus, n: usize) -> usize
+    requires { ⌜ n ≤ mostFed ⌝ }
+    ensures { λ r. ⌜ r ≡ openingRoom bus + unitRoom bus * n ⌝ }
+{
+    match bus {
+        Bus::Bytes => OPENING_ROOM + BYTE_ROOM * n,
+        Bus::Halves => HALF_ROOM * n,
+    }
+}
+
+// Feeds all units; the replies go to the room, the opening's first.
 fn feed_all(
+    bus: Bus,
     session: sent::Session,
     opening: Reply,
     memory: &mut [u8],
     fed: &[u8],
     room: &mut [u8],
 ) -> u64
-    requires { ⌜ (session .line .have ≡ 0) × ((length (sentBytes opening) ≤ openingRoom) × ((length (now fed) ≤ mostFed) × (openingRoom + byteRoom * length (now fed) ≤ length (now room)))) ⌝ }
-    ensures { λ r. ⌜ r ≡ tallied (greeted opening (fedAll session (now (memory .entry)) (now (fed .entry)))) ⌝ }
-    ensures { λ _. ⌜ now (memory .exit) ≡ fedAll session (now (memory .entry)) (now (fed .entry)) .memory ⌝ }
-    ensures { λ _. ⌜ now (room .exit) ≡ laidIn (now (room .entry)) (greeted opening (fedAll session (now (memory .entry)) (now (fed .entry)))) ⌝ }
+    requires { ⌜ (session .line .have ≡ 0) × ((length (sentBytes opening) ≤ openingRoom bus) × ((length (unitsFed bus (now fed)) ≤ mostFed) × (openingRoom bus + unitRoom bus * length (unitsFed bus (now fed)) ≤ length (now room)))) ⌝ }
+    ensures { λ r. ⌜ r ≡ tallied (greeted opening (fedAll bus session (now (memory .entry)) (unitsFed bus (now (fed .entry))))) ⌝ }
+    ensures { λ _. ⌜ now (memory .exit) ≡ fedAll bus session (now (memory .entry)) (unitsFed bus (now (fed .entry))) .memory ⌝ }
+    ensures { λ _. ⌜ now (room .exit) ≡ laidIn (now (room .entry)) (greeted opening (fedAll bus session (now (memory .entry)) (unitsFed bus (now (fed .entry))))) ⌝ }
 {
+    let n = units_in(bus, fed.len());
     let mut count = put_reply(room, 0, opening);
     let mut first: u8 = 0;
     let mut live = session;
     let mut i: usize = 0;
-    while i < fed.len() {
-        let answer = live.step(memory, fed[i]);
+    while i < n {
+        let answer = live.step_at(memory, bus, fed, i);
         let refusal = answer.refusal;
         let reply = answer.reply;
         count = put_reply(room, count, reply);
@@ -154,12 +207,16 @@ fn feed_all(
     ((first as u64) << 32) + (count as u64)
 }
 
-// Are so many bytes fed, and is the room long enough for all replies to them?
-fn is_roomy(n: usize, room: usize) -> bool
-    ensures { λ r. ⌜ r ≡ roomy n room ⌝ }
+// Are so many lent bytes whole units, few enough, and is the room long enough for all replies to them?
+fn is_roomy(bus: Bus, lent: usize, room: usize) -> bool
+    ensures { λ r. ⌜ r ≡ roomy bus lent room ⌝ }
 {
+    if !are_whole(bus, lent) {
+        return false;
+    }
+    let n = units_in(bus, lent);
     if n <= MOST_FED {
-        return OPENING_ROOM + BYTE_ROOM * n <= room;
+        return room_for(bus, n) <= room;
     }
     false
 }
@@ -172,11 +229,17 @@ fn refuse(refusal: Refusal) -> u64
 }
 
 // A session from its opening.
-fn session_from(opened: sent::Opened, memory: &mut [u8], fed: &[u8], room: &mut [u8]) -> u64
-    requires { ⌜ (opened .session .line .have ≡ 0) × (length (sentBytes (opened .reply)) ≤ openingRoom) ⌝ }
-    ensures { λ r. ⌜ r ≡ tallied (sessionFrom opened (now (memory .entry)) (now (fed .entry)) (length (now (room .entry)))) ⌝ }
-    ensures { λ _. ⌜ now (memory .exit) ≡ sessionFrom opened (now (memory .entry)) (now (fed .entry)) (length (now (room .entry))) .memory ⌝ }
-    ensures { λ _. ⌜ now (room .exit) ≡ laidIn (now (room .entry)) (sessionFrom opened (now (memory .entry)) (now (fed .entry)) (length (now (room .entry)))) ⌝ }
+fn session_from(
+    bus: Bus,
+    opened: sent::Opened,
+    memory: &mut [u8],
+    fed: &[u8],
+    room: &mut [u8],
+) -> u64
+    requires { ⌜ (opened .session .line .have ≡ 0) × (length (sentBytes (opened .reply)) ≤ openingRoom bus) ⌝ }
+    ensures { λ r. ⌜ r ≡ tallied (sessionFrom bus opened (now (memory .entry)) (now (fed .entry)) (length (now (room .entry)))) ⌝ }
+    ensures { λ _. ⌜ now (memory .exit) ≡ sessionFrom bus opened (now (memory .entry)) (now (fed .entry)) (length (now (room .entry))) .memory ⌝ }
+    ensures { λ _. ⌜ now (room .exit) ≡ laidIn (now (room .entry)) (sessionFrom bus opened (now (memory .entry)) (now (fed .entry)) (length (now (room .entry)))) ⌝ }
 {
     let refusal = opened.refusal;
     if refusal.number() != 0 {
@@ -188,13 +251,13 @@ fn session_from(opened: sent::Opened, memory: &mut [u8], fed: &[u8], room: &mut 
     if memory.len() != windows::sum(windows) {
         return refuse(Refusal::Memory);
     }
-    if !is_roomy(fed.len(), room.len()) {
+    if !is_roomy(bus, fed.len(), room.len()) {
         return refuse(Refusal::Call);
     }
-    feed_all(session, opening, memory, fed, room)
+    feed_all(bus, session, opening, memory, fed, room)
 }
 
-// One whole sent session.
+// One whole sent session on the line of bytes.
 #[no_mangle]
 pub extern "C" fn ais_sent_session(
     map: &[u8],
@@ -202,12 +265,28 @@ pub extern "C" fn ais_sent_session(
     fed: &[u8],
     room: &mut [u8],
 ) -> u64
-    ensures { λ r. ⌜ r ≡ sentValue (now (map .entry)) (now (memory .entry)) (now (fed .entry)) (now (room .entry)) ⌝ }
-    ensures { λ _. ⌜ now (memory .exit) ≡ sentMemory (now (map .entry)) (now (memory .entry)) (now (fed .entry)) (now (room .entry)) ⌝ }
-    ensures { λ _. ⌜ now (room .exit) ≡ sentRoom (now (map .entry)) (now (memory .entry)) (now (fed .entry)) (now (room .entry)) ⌝ }
+    ensures { λ r. ⌜ r ≡ sentValue Bus.Bytes (now (map .entry)) (now (memory .entry)) (now (fed .entry)) (now (room .entry)) ⌝ }
+    ensures { λ _. ⌜ now (memory .exit) ≡ sentMemory Bus.Bytes (now (map .entry)) (now (memory .entry)) (now (fed .entry)) (now (room .entry)) ⌝ }
+    ensures { λ _. ⌜ now (room .exit) ≡ sentRoom Bus.Bytes (now (map .entry)) (now (memory .entry)) (now (fed .entry)) (now (room .entry)) ⌝ }
 {
     let opened = sent::Session::open(maps::count_of(map), maps::windows_of(map));
-    session_from(opened, memory, fed, room)
+    session_from(Bus::Bytes, opened, memory, fed, room)
+}
+
+// One whole sent session on the line of halves, each lent as two bytes, the low one first.
+#[no_mangle]
+pub extern "C" fn ais_half_session(
+    map: &[u8],
+    memory: &mut [u8],
+    fed: &[u8],
+    room: &mut [u8],
+) -> u64
+    ensures { λ r. ⌜ r ≡ sentValue Bus.Halves (now (map .entry)) (now (memory .entry)) (now (fed .entry)) (now (room .entry)) ⌝ }
+    ensures { λ _. ⌜ now (memory .exit) ≡ sentMemory Bus.Halves (now (map .entry)) (now (memory .entry)) (now (fed .entry)) (now (room .entry)) ⌝ }
+    ensures { λ _. ⌜ now (room .exit) ≡ sentRoom Bus.Halves (now (map .entry)) (now (memory .entry)) (now (fed .entry)) (now (room .entry)) ⌝ }
+{
+    let opened = sent::Session::open_halves(maps::count_of(map), maps::windows_of(map));
+    session_from(Bus::Halves, opened, memory, fed, room)
 }
 
 // A text of hexadecimal digits read into an image: 0 or the refusal.

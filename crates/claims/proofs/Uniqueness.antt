@@ -45,7 +45,10 @@ use Rattle.survey.proofs.Survey.line.Reads as survey-line
 use Rattle.survey.proofs.Survey.including.Reads as survey-including
 use Rattle.survey.proofs.Survey.totals.Reads as survey-totals
 use Rattle.sent.proofs.Session.«open».Reads as sent-opening
+use Rattle.sent.proofs.Session.open_halves.Reads as half-opening
 use Rattle.sent.proofs.Session.step.Reads as sent-step
+use Rattle.sent.proofs.Session.step_half.Reads as half-step
+use Rattle.sent.proofs.Session.step_at.Reads as step-at
 use Rattle.sent.proofs.take_word.Reads as take_word
 use Rattle.sent.specs.Line.{Outcome}
 use Rattle.sent.specs.declared.Session.{Session}
@@ -56,6 +59,7 @@ use Rattle.bench.proofs.ais_flash_fetched.Reads as ais_flash_fetched
 use Rattle.hex.proofs.read.Reads as read
 use Rattle.hex.proofs.write.Reads as written
 use Rattle.bench.proofs.ais_flash_run.Reads as ais_flash_run
+use Rattle.bench.proofs.ais_half_session.Reads as ais_half_session
 use Rattle.bench.proofs.ais_sent_session.Reads as ais_sent_session
 use Rattle.bench.proofs.ais_hex_read.Reads as ais_hex_read
 use Rattle.bench.proofs.ais_hex_write.Reads as ais_hex_write
@@ -218,8 +222,17 @@ survey-totals-unique κs a r s e f = same
 pub sent-open-unique : OneResult sent-opening.Post
 sent-open-unique κs a r s e f = same
 
+pub half-open-unique : OneResult half-opening.Post
+half-open-unique κs a r s e f = same
+
 pub sent-step-unique : OneResultAndMemory sent-step.Post (λ κs e. now (e .1 .0))
 sent-step-unique κs a r s e f = both-same
+
+pub half-step-unique : OneResultAndMemory half-step.Post (λ κs e. now (e .1 .0))
+half-step-unique κs a r s e f = both-same
+
+pub step-at-unique : OneResultAndMemory step-at.Post (λ κs e. now (e .1 .0))
+step-at-unique κs a r s e f = both-same
 
 pub take-word-unique : OneResultAndMemory take_word.Post (λ κs e. now (e .1 .0))
 take-word-unique κs a r s e f = both-same
@@ -243,7 +256,7 @@ hex-read-unique κs a r s e f = both-same
 pub hex-write-unique : OneResultAndMemory written.Post (λ κs e. now (e .1 .0))
 hex-write-unique κs a r s e f = both-same
 
--- bench: the sent entry has a memory and a room
+-- bench: the sent entries have a memory and a room
 pub ais-flash-run-unique : OneResultAndMemory ais_flash_run.Post (λ κs e. now (e .1 .0))
 ais-flash-run-unique κs a r s e f = both-same
 
@@ -253,6 +266,10 @@ ais-flash-fetched-unique κs a r s e f = both-same
 pub ais-sent-session-unique : Coincide ais_sent_session.Post
     (λ κs r s e f. (r ≡ s) × ((now (e .1 .0) ≡ now (f .1 .0)) × (now (e .1 .1 .1 .0) ≡ now (f .1 .1 .1 .0))))
 ais-sent-session-unique κs a r s e f p q = (same (p .0) (q .0), both-same (p .1) (q .1))
+
+pub ais-half-session-unique : Coincide ais_half_session.Post
+    (λ κs r s e f. (r ≡ s) × ((now (e .1 .0) ≡ now (f .1 .0)) × (now (e .1 .1 .1 .0) ≡ now (f .1 .1 .1 .0))))
+ais-half-session-unique κs a r s e f p q = (same (p .0) (q .0), both-same (p .1) (q .1))
 
 pub ais-hex-read-unique : OneResultAndMemory ais_hex_read.Post (λ κs e. now (e .1 .0))
 ais-hex-read-unique κs a r s e f = both-same

@@ -1,5 +1,5 @@
 -- Where Jump stands both modes refuse it with 15: the look-up answers retired before any row is asked, and so before an argument is looked for.
-use mathlib.Core.Path.{_≡_, ap, _∙_}
+use mathlib.Core.Path.{ap, _∙_}
 use Rattle.script.specs.declared.Found.{Found}
 use Rattle.script.specs.declared.Mode.the-variants.{Flash, Sent}
 use Rattle.script.specs.Opcodes.{lookedUp}

@@ -1,5 +1,6 @@
 // The port: a standing session, lent with the memory, takes one byte a call.
-ghost use Rattle.sent.specs.Line.{byteStep};
+ghost use Rattle.sent.specs.Line.{unitStep};
+ghost use Rattle.sent.specs.declared.Bus.the-variants.{Bytes};
 ghost use Rattle.port.specs.Port.{isGiven};
 use script::Event;
 use script::Refusal;
@@ -21,7 +22,7 @@ pub struct Fed {
 
 // The step by value, its session apart.
 fn advance(session: Session, memory: &mut [u8], byte: u8) -> Fed
-    ensures { λ r. ⌜ isGiven (byteStep session (now (memory .entry)) byte) (r .session) (r .told) (now (memory .exit)) ⌝ }
+    ensures { λ r. ⌜ isGiven (unitStep Bytes session (now (memory .entry)) byte) (r .session) (r .told) (now (memory .exit)) ⌝ }
 {
     let answer = session.step(memory, byte);
     let refusal = answer.refusal;
@@ -41,7 +42,7 @@ fn advance(session: Session, memory: &mut [u8], byte: u8) -> Fed
 
 // One byte from the host, to the session where it stands.
 pub fn feed(session: &mut Session, memory: &mut [u8], byte: u8) -> Told
-    ensures { λ r. ⌜ isGiven (byteStep (now (session .entry)) (now (memory .entry)) byte) (now (session .exit)) r (now (memory .exit)) ⌝ }
+    ensures { λ r. ⌜ isGiven (unitStep Bytes (now (session .entry)) (now (memory .entry)) byte) (now (session .exit)) r (now (memory .exit)) ⌝ }
 {
     let fed = advance(*session, memory, byte);
     *session = fed.session;

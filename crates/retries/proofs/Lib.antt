@@ -1,9 +1,6 @@
 pub mod Accepted
 pub mod Beginnings
-pub mod Feeding
 pub mod Instance
-pub mod Line
-pub mod Memory
 pub mod Reached
 pub mod Retries
 pub mod Several

@@ -12,11 +12,16 @@ use Rattle.windows.specs.Window.{sumOf}
 use Rattle.windows.specs.declared.Window.{Window}
 use Rattle.effects.specs.Effects.{writes, becomes, Does}
 use Rattle.effects.proofs.Effects.{load-granted, fill-granted, setting-granted, same-bits}
-use Rattle.retries.specs.Feeding.{State, Heard, NoneRefused}
-use Rattle.retries.specs.Pieces.{Piece, load, fill, setting, bytesOf, allBytes, AreBytes, Sendable, AllSendable, judgedOf, effectOf, someWrites, Covers}
+use Rattle.commands.specs.Commands.{loadJudged}
+use Rattle.sent.specs.Bus.{allUnits}
+use Rattle.sent.specs.Feeding.{State, Heard, AreBytes, NoneRefused}
+use Rattle.sent.specs.declared.Bus.{Bus}
+use Rattle.sent.specs.declared.Bus.the-variants.{Bytes}
+use Rattle.sent.proofs.Feeding.{none-refused-words, Goes, nothing-goes, words-go}
+use Rattle.sent.proofs.Laws.{data-count}
+use Rattle.sent.proofs.Memory.{if-over, loaded-over, fill-over, setting-over, take-bytes, words-bytes}
+use Rattle.retries.specs.Pieces.{Piece, load, fill, setting, wordsOf, allWords, bytesLoaded, Sendable, AllSendable, judgedOf, effectOf, someWrites, Covers}
 use Rattle.retries.proofs.Accepted.{GrantedAt, piece-accepted}
-use Rattle.retries.proofs.Feeding.{none-refused-append, Goes, nothing-goes, _then_}
-use Rattle.retries.proofs.Memory.{load-over, fill-over, setting-over}
 use Rattle.retries.proofs.Taking.{registerOf, memoryOf, heardOf, awaiting, piece-goes}
 
 -- the register and the memory after several commands, what is heard of them, and whether an opcode has been acknowledged
@@ -28,9 +33,9 @@ unfoldable pub memoriesOf : List Window → List Piece → List ℕ → List ℕ
 memoriesOf windows [] m = m
 memoriesOf windows (c ∷ cs) m = memoriesOf windows cs (memoryOf windows c m)
 
-unfoldable pub heardAll : List Piece → List Heard
-heardAll [] = []
-heardAll (c ∷ cs) = heardOf c ++ heardAll cs
+unfoldable pub heardAll : Bus → List Piece → List Heard
+heardAll bus [] = []
+heardAll bus (c ∷ cs) = heardOf bus c ++ heardAll bus cs
 
 unfoldable pub begunBy : List Piece → Bool → Bool
 begunBy [] begun = begun
@@ -84,39 +89,46 @@ pick-over true false given became was covers = absurd (false≢true (covers refl
 
 module _ (windows : List Window) where
   -- a granted command does its effect
-  piece-does : (m : List ℕ) → length m ≡ sumOf windows → (c : Piece) → GrantedAt (judgedOf windows c)
+  piece-does : (m : List ℕ) → length m ≡ sumOf windows → (c : Piece) → Sendable c → GrantedAt (judgedOf windows c)
       → Does (effectOf windows c) m (memoryOf windows c m)
   unfolding effectOf
-  piece-does m lent (load address bytes pads) g = rw (g .granted) (load-granted windows m lent address bytes (g .granted) .does)
-  piece-does m lent (fill address size kind pattern) g = rw (g .granted) (fill-granted windows m lent address size kind pattern (g .granted) .does)
-  piece-does m lent (setting word address value delay) g = rw (g .granted) (setting-granted windows m lent word address value (g .granted) .does)
+  piece-does m lent (load address size contents) sendable g =
+      rw (g .granted)
+      (load-granted windows m lent address (bytesLoaded size contents) (ap (loadJudged windows address) (data-count size contents (sendable .1)) ∙ g .granted) .does)
+  piece-does m lent (fill address size kind pattern) sendable g =
+      rw (g .granted) (fill-granted windows m lent address size kind pattern (g .granted) .does)
+  piece-does m lent (setting word address value delay) sendable g =
+      rw (g .granted) (setting-granted windows m lent word address value (g .granted) .does)
 
   -- and leaves bytes
-  piece-bytes : (m : List ℕ) → AreBytes m → (c : Piece) → Sendable c → AreBytes (memoryOf windows c m)
-  piece-bytes m are (load address bytes pads) sendable = load-over windows m address bytes (sendable .2) .bytes are
-  piece-bytes m are (fill address size kind pattern) sendable = fill-over windows m address size kind pattern .bytes are
-  piece-bytes m are (setting word address value delay) sendable = setting-over windows m word address value .bytes are
+  piece-bytes : (m : List ℕ) → AreBytes m → (c : Piece) → AreBytes (memoryOf windows c m)
+  piece-bytes m are (load address size contents) =
+      if-over m (loadJudged windows address size) _
+      (λ place. loaded-over m place (bytesLoaded size contents) (take-bytes size (allUnits Bytes contents) (words-bytes contents))) .bytes are
+  piece-bytes m are (fill address size kind pattern) = fill-over windows m address size kind pattern .bytes are
+  piece-bytes m are (setting word address value delay) = setting-over windows m word address value .bytes are
 
   -- so do several
-  pub several-length : (cs : List Piece) (m : List ℕ) → length m ≡ sumOf windows → AllGranted windows cs → length (memoriesOf windows cs m) ≡ length m
-  unfolding memoriesOf AllGranted
-  several-length [] m lent g = refl
-  several-length (c ∷ cs) m lent g =
-      let same = piece-does m lent c (g .0) .same-length in
-      several-length cs (memoryOf windows c m) (same ∙ lent) (g .1) ∙ same
+  pub several-length : (cs : List Piece) (m : List ℕ) → length m ≡ sumOf windows → AllSendable cs → AllGranted windows cs
+      → length (memoriesOf windows cs m) ≡ length m
+  unfolding memoriesOf AllSendable AllGranted
+  several-length [] m lent s g = refl
+  several-length (c ∷ cs) m lent s g =
+      let same = piece-does m lent c (s .0) (g .0) .same-length in
+      several-length cs (memoryOf windows c m) (same ∙ lent) (s .1) (g .1) ∙ same
 
-  pub several-bytes : (cs : List Piece) (m : List ℕ) → AreBytes m → AllSendable cs → AreBytes (memoriesOf windows cs m)
-  unfolding memoriesOf AllSendable
-  several-bytes [] m are s = are
-  several-bytes (c ∷ cs) m are s = several-bytes cs (memoryOf windows c m) (piece-bytes m are c (s .0)) (s .1)
+  pub several-bytes : (cs : List Piece) (m : List ℕ) → AreBytes m → AreBytes (memoriesOf windows cs m)
+  unfolding memoriesOf
+  several-bytes [] m are = are
+  several-bytes (c ∷ cs) m are = several-bytes cs (memoryOf windows c m) (piece-bytes m are c)
 
-  several-bits : (cs : List Piece) (m : List ℕ) → length m ≡ sumOf windows → AllGranted windows cs → (p : ℕ) → p < 8 * length m
+  several-bits : (cs : List Piece) (m : List ℕ) → length m ≡ sumOf windows → AllSendable cs → AllGranted windows cs → (p : ℕ) → p < 8 * length m
       → bitAt (memoriesOf windows cs m) p ≡ pick (someWrites windows cs p) (lastGiven windows cs p) (bitAt m p)
-  unfolding memoriesOf AllGranted someWrites lastGiven pick
-  several-bits [] m lent g p h = refl
-  several-bits (c ∷ cs) m lent g p h =
-      let does = piece-does m lent c (g .0) in
-      several-bits cs (memoryOf windows c m) (does .same-length ∙ lent) (g .1) p (omega (arith, does .same-length))
+  unfolding memoriesOf AllSendable AllGranted someWrites lastGiven pick
+  several-bits [] m lent s g p h = refl
+  several-bits (c ∷ cs) m lent s g p h =
+      let does = piece-does m lent c (s .0) (g .0) in
+      several-bits cs (memoryOf windows c m) (does .same-length ∙ lent) (s .1) (g .1) p (omega (arith, does .same-length))
       ∙ ap (λ (n : ℕ). pick (someWrites windows cs p) (lastGiven windows cs p) n) (does .each-bit p h)
       ∙ pick-inside (writes (effectOf windows c) p) (someWrites windows cs p) _ _ _
 
@@ -125,37 +137,37 @@ module _ (windows : List Window) where
       → AllSendable attempt → AllSendable following → AllGranted windows attempt → AllGranted windows following → Covers windows attempt following
       → memoriesOf windows following (memoriesOf windows attempt m) ≡ memoriesOf windows following m
   written-over attempt following m lent are sa sf ga gf covers =
-      let kept = several-length attempt m lent ga in
-      let long = several-length following (memoriesOf windows attempt m) (kept ∙ lent) gf in
-      same-bits _ _ (long ∙ kept ∙ sym (several-length following m lent gf))
-      (several-bytes following _ (several-bytes attempt m are sa) sf) (several-bytes following m are sf)
+      let kept = several-length attempt m lent sa ga in
+      let long = several-length following (memoriesOf windows attempt m) (kept ∙ lent) sf gf in
+      same-bits _ _ (long ∙ kept ∙ sym (several-length following m lent sf gf))
+      (several-bytes following _ (several-bytes attempt m are)) (several-bytes following m are)
       (λ p h.
-      several-bits following _ (kept ∙ lent) gf p (omega (arith, long, h))
-      ∙ ap (λ (n : ℕ). pick (someWrites windows following p) (lastGiven windows following p) n) (several-bits attempt m lent ga p (omega (arith, long, kept, h)))
+      several-bits following _ (kept ∙ lent) sf gf p (omega (arith, long, h))
+      ∙ ap (λ (n : ℕ). pick (someWrites windows following p) (lastGiven windows following p) n) (several-bits attempt m lent sa ga p (omega (arith, long, kept, h)))
       ∙ pick-over (someWrites windows attempt p) (someWrites windows following p) _ _ _ (covers p)
-      ∙ sym (several-bits following m lent gf p (omega (arith, long, kept, h))))
+      ∙ sym (several-bits following m lent sf gf p (omega (arith, long, kept, h))))
 
-  module _ (on : Bool) where
-    -- their bytes
+  module _ (bus : Bus) (on : Bool) where
+    -- their words
     pub several-go : (cs : List Piece) (begun : Bool) (register : ℕ) (m : List ℕ) → length m ≡ sumOf windows → AllSendable cs → AllGranted windows cs
-        → Goes (awaiting windows on begun register m) (allBytes cs)
-        (awaiting windows on (begunBy cs begun) (registersOf on cs register) (memoriesOf windows cs m)) (heardAll cs)
-    unfolding allBytes begunBy registersOf memoriesOf heardAll AllSendable AllGranted
-    several-go [] begun register m lent s g = nothing-goes _
+        → Goes bus (awaiting windows on begun register m) (allUnits bus (allWords cs))
+        (awaiting windows on (begunBy cs begun) (registersOf on cs register) (memoriesOf windows cs m)) (heardAll bus cs)
+    unfolding allWords begunBy registersOf memoriesOf heardAll AllSendable AllGranted
+    several-go [] begun register m lent s g = nothing-goes bus _
     several-go (c ∷ cs) begun register m lent s g =
-        piece-goes windows on begun register m lent c (s .0) (g .0 .granted)
-        then several-go cs true (registerOf on c register) (memoryOf windows c m) (piece-does m lent c (g .0) .same-length ∙ lent) (s .1) (g .1)
+        words-go (wordsOf c) (allWords cs) (piece-goes bus windows on begun register m lent c (s .0) (g .0 .granted))
+        (several-go cs true (registerOf on c register) (memoryOf windows c m) (piece-does m lent c (s .0) (g .0) .same-length ∙ lent) (s .1) (g .1))
 
     -- none of which is refused
     pub several-accepted : (cs : List Piece) (begun : Bool) (register : ℕ) (m : List ℕ) → length m ≡ sumOf windows → AllSendable cs
-        → NoneRefused (awaiting windows on begun register m) (allBytes cs) → AllGranted windows cs
-    unfolding allBytes AllSendable AllGranted
+        → NoneRefused bus (awaiting windows on begun register m) (allUnits bus (allWords cs)) → AllGranted windows cs
+    unfolding allWords AllSendable AllGranted
     several-accepted [] begun register m lent s n = tt
     several-accepted (c ∷ cs) begun register m lent s n =
-        let parts = none-refused-append (awaiting windows on begun register m) (bytesOf c) (allBytes cs) n in
-        let g = piece-accepted windows on begun register m lent c (s .0) (parts .0) in
-        let goes = piece-goes windows on begun register m lent c (s .0) (g .granted) in (
+        let parts = none-refused-words bus (awaiting windows on begun register m) (wordsOf c) (allWords cs) n in
+        let g = piece-accepted bus windows on begun register m lent c (s .0) (parts .0) in
+        let goes = piece-goes bus windows on begun register m lent c (s .0) (g .granted) in (
           g,
-          several-accepted cs true (registerOf on c register) (memoryOf windows c m) (piece-does m lent c g .same-length ∙ lent) (s .1)
-              (subst (λ (x : State). NoneRefused x (allBytes cs)) (goes .leads) (parts .1)),
+          several-accepted cs true (registerOf on c register) (memoryOf windows c m) (piece-does m lent c (s .0) g .same-length ∙ lent) (s .1)
+              (subst (λ (x : State). NoneRefused bus x (allUnits bus (allWords cs))) (goes .leads) (parts .1)),
         )

@@ -1,17 +1,17 @@
--- A whole command on the line: from any running session that awaits an opcode, the bytes of a granted load, fill or setting lead to the same
--- session, begun, with the command's register and memory; what is heard of them does not depend on register, memory or whether it had begun.
-use Prim.Native.Nat.{ℕ, zero, suc, _+_, _-_, _*_, _/_, _^_, _≤_, _<_, min}
-use mathlib.Core.Bool.{Bool, true, false, not, _&&_, and-false}
+-- A whole command on either line: from any running session that awaits an opcode, the words of a granted load, fill or setting lead to the same session, begun,
+-- with the command's register and memory; what is heard of them does not depend on register, memory or whether it had begun. Word by word, each by the lift;
+-- what the words come to is the law over the opcode table, whatever the command.
+use Prim.Native.Nat.{ℕ, suc, _+_, _-_, _/_, _%_, _^_, _<_}
+use mathlib.Core.Bool.{Bool, true, false, true≢false}
 use mathlib.Core.List.{List, [], _∷_, _++_}
-use mathlib.Core.Path.{_≡_, refl, sym, ap, ap₂, subst, _∙_}
+use mathlib.Core.Logic.{_≢_}
+use mathlib.Core.Path.{_≡_, refl, sym, ap, subst, _∙_}
 use native.Mathlib.Omega.{arith}
 use lib.Dec.{eqb, lit<}
-use lib.ListN.{length, getD, take, drop, length-append}
-use lib.Seq.{drop-cons, take-nil, take-append-seam}
-use borrow.Author.Tests.{ne-eqb}
-use Rattle.words.specs.Bytes.{byte, put}
+use lib.ListN.{length, replicate}
+use borrow.Author.Tests.{eqb-false}
+use Rattle.words.specs.Bytes.{byte}
 use Rattle.words.specs.Choice.{pick}
-use Rattle.words.proofs.Choice.{passed}
 use Rattle.words.proofs.Puts.{length-put}
 use Rattle.checksum.specs.Checksum as checksum
 use Rattle.windows.specs.Window.{sumOf}
@@ -21,230 +21,240 @@ use Rattle.script.specs.declared.Command.{Command}
 use Rattle.script.specs.declared.Command.the-variants as command
 use Rattle.script.specs.declared.Event.{Event}
 use Rattle.script.specs.declared.Event.the-variants.{Nothing, Wait}
-use Rattle.commands.specs.Commands.{loadJudged, loaded, fillDone, fillMemory, settingDone, settingMemory, memoryIf}
-use Rattle.commands.proofs.Loading.{loaded-append}
+use Rattle.script.specs.declared.Found.the-variants.{Known}
+use Rattle.script.specs.declared.Mode.the-variants.{Sent}
+use Rattle.script.specs.declared.Refusal.the-variants as refusal
+use Rattle.commands.specs.Commands.{loadJudged, loaded, loadFed, fillDone, fillMemory, settingDone, settingMemory, memoryIf}
+use Rattle.commands.specs.declared.Judged.{Judged}
 use Rattle.commands.specs.declared.Judged.the-variants.{Granted}
-use Rattle.sent.specs.Line.{isStart}
-use Rattle.sent.specs.Machine.{noneKept, awaited, after, acknowledging, wordStep}
+use Rattle.sent.specs.Bus.{unitsInWord, startUnit, unitsOf, allUnits, firstUnit}
+use Rattle.sent.specs.Feeding.{State, Heard, NoneRefused}
+use Rattle.sent.specs.Lift.{atWord, silent, Ready}
+use Rattle.sent.specs.Machine.{Outcome, quiet, _leaving_, noneKept, keeping, dataBytes, awaited, loadBegun, after, performed, begun, acknowledging, opening}
 use Rattle.sent.specs.Replies.{silence, oneWord, wordThen, acknowledged}
+use Rattle.sent.specs.Words.{afterWords, asking, doneAtLast}
+use Rattle.sent.specs.declared.Bus.{Bus}
+use Rattle.sent.specs.declared.Bus.the-variants.{Bytes, Halves}
 use Rattle.sent.specs.declared.Core.{Core}
+use Rattle.sent.specs.declared.Kept.{Kept}
 use Rattle.sent.specs.declared.Phase.{Phase}
 use Rattle.sent.specs.declared.Phase.the-variants as phase
 use Rattle.sent.specs.declared.Reply.{Reply}
-use Rattle.retries.specs.Feeding.{State, Heard, fed}
-use Rattle.retries.specs.Pieces.{Piece, load, fill, setting, four, bytesOf, AreBytes, Sendable, judgedOf, loadOpcode, fillOpcode, settingOpcode, requestOpcode, startOverOpcode}
-use Rattle.retries.proofs.Feeding.{Goes, nothing-goes, _then_, reaching}
-use Rattle.retries.proofs.Line.{running, ready, wordOf, heardWord, accepted, Plain, word-goes, word-again, bytes-again}
+use Rattle.sent.proofs.ByTheTable.{by-the-table, word-kept, word-last, opcode-asks}
+use Rattle.sent.proofs.Feeding.{none-refused-append, Goes, nothing-goes, _then_, reaching, words-go}
+use Rattle.sent.proofs.Laws.{data-length, data-step, load-in-pieces}
+use Rattle.sent.proofs.Lift.{accepted-goes, word-accepted}
+use Rattle.retries.specs.Pieces.{Piece, load, fill, setting, wordsOf, bytesLoaded, AreWords, Sendable, judgedOf, loadOpcode, fillOpcode, settingOpcode, requestOpcode, startOverOpcode}
 
--- the register after the data of a load, word by word
-unfoldable pub dataFed : Bool → ℕ → ℕ → ℕ → List ℕ → ℕ
-dataFed on zero register left bs = register
-dataFed on (suc n) register left bs =
-    dataFed on n
-    (pick on (checksum.fed register (wordOf (getD bs 0 0) (getD bs 1 0) (getD bs 2 0) (getD bs 3 0)) (8 * min left 4)) register)
-    (left - 4) (drop 4 bs)
+-- a running session's core
+abbrev pub running : List Window → Bool → Bool → ℕ → Phase → Core
+running windows on begun register next =
+    record { windows = windows; ended = false; on = on; begun = begun; tally = record { register = register }; stage = record { phase = next } }
+
+-- the state that awaits an opcode
+abbrev pub awaiting : List Window → Bool → Bool → ℕ → List ℕ → State
+awaiting windows on begun register m = atWord (running windows on begun register phase.Opcode) m
+
+-- an accepted word's outcome
+abbrev pub accepted : Reply → Event → Core → List ℕ → Outcome
+accepted reply event k m = record { answer = record { refusal = refusal.None; reply = reply; event = event; core = k }; memory = m }
+
+-- what is heard of an accepted word
+abbrev pub heardSaid : Bus → Reply → Event → List Heard
+heardSaid bus reply event = replicate (unitsInWord bus - 1) silent ++ (record { refusal = refusal.None; reply = reply; event = event } ∷ [])
+
+-- of words that are taken in silence, and of some such and one that is not
+unfoldable pub heardQuiet : Bus → List ℕ → List Heard
+heardQuiet bus [] = []
+heardQuiet bus (w ∷ ws) = heardSaid bus silence Nothing ++ heardQuiet bus ws
+
+unfoldable pub heardThen : Bus → List ℕ → Reply → Event → List Heard
+heardThen bus [] reply event = heardSaid bus reply event ++ []
+heardThen bus (w ∷ ws) reply event = heardSaid bus silence Nothing ++ heardThen bus ws reply event
+
+-- of a command
+abbrev heardCommand : Bus → ℕ → List ℕ → Event → List Heard
+heardCommand bus opcode arguments event = heardSaid bus (oneWord (acknowledged opcode)) Nothing ++ heardThen bus arguments silence event
+
+abbrev pub heardOf : Bus → Piece → List Heard
+heardOf bus (load address size contents) = heardCommand bus loadOpcode (size ∷ []) Nothing ++ heardQuiet bus contents
+heardOf bus (fill address size kind pattern) = heardCommand bus fillOpcode (size ∷ kind ∷ pattern ∷ []) Nothing
+heardOf bus (setting word address value delay) = heardCommand bus settingOpcode (address ∷ value ∷ delay ∷ []) (Wait delay)
 
 -- the register after a command
 abbrev pub registerOf : Bool → Piece → ℕ → ℕ
-registerOf on (load address bytes pads) register =
-    dataFed on ((length bytes + 3) / 4) (pick on (checksum.fedWords register (address ∷ length bytes ∷ [])) register) (length bytes) (bytes ++ pads)
+registerOf on (load address size contents) register = pick on (loadFed register address (bytesLoaded size contents)) register
 registerOf on (fill address size kind pattern) register = pick on (checksum.fedWords register (address ∷ size ∷ kind ∷ pattern ∷ [])) register
 registerOf on (setting word address value delay) register = register
 
 -- the memory after it
 abbrev pub memoryOf : List Window → Piece → List ℕ → List ℕ
-memoryOf windows (load address bytes pads) m = memoryIf (loadJudged windows address (length bytes)) (λ place. loaded m place bytes) m
+memoryOf windows (load address size contents) m = memoryIf (loadJudged windows address size) (λ place. loaded m place (bytesLoaded size contents)) m
 memoryOf windows (fill address size kind pattern) m = fillMemory windows m address size kind pattern
 memoryOf windows (setting word address value delay) m = settingMemory windows m word address value
 
--- what is heard of an opcode, and of another word
-abbrev pub heardOpcode : ℕ → List Heard
-heardOpcode opcode = heardWord (oneWord (acknowledged opcode)) Nothing
+-- an opcode that no line takes for its start unit
+pub record Apart (opcode : ℕ) : Type 0 where
+  pub small : opcode < 2 ^ 32
+  pub no-byte : eqb (byte opcode 0) 0x58 ≡ false
+  pub no-half : eqb (opcode % 2 ^ 16) 0x5853 ≡ false
 
-abbrev pub heardQuiet : List Heard
-heardQuiet = heardWord silence Nothing
+pub load-apart : Apart loadOpcode
+unfolding byte
+load-apart = record { small = lit< tt; no-byte = refl; no-half = refl }
 
--- of a load's data
-unfoldable pub heardData : ℕ → List Heard
-heardData zero = []
-heardData (suc n) = heardQuiet ++ heardData n
+pub fill-apart : Apart fillOpcode
+unfolding byte
+fill-apart = record { small = lit< tt; no-byte = refl; no-half = refl }
 
--- of a command
-abbrev pub heardOf : Piece → List Heard
-heardOf (load address bytes pads) = heardOpcode loadOpcode ++ heardQuiet ++ heardQuiet ++ heardData ((length bytes + 3) / 4)
-heardOf (fill address size kind pattern) = heardOpcode fillOpcode ++ heardQuiet ++ heardQuiet ++ heardQuiet ++ heardQuiet
-heardOf (setting word address value delay) =
-    heardOpcode settingOpcode ++ heardQuiet ++ heardQuiet ++ heardQuiet ++ heardWord silence (Wait delay)
+pub setting-apart : Apart settingOpcode
+unfolding byte
+setting-apart = record { small = lit< tt; no-byte = refl; no-half = refl }
 
--- the last argument word of a command is awaited, three words being kept
-abbrev pub lastWord : Command → ℕ → ℕ → ℕ → Phase
-lastWord c first second third = phase.Argument c 1 (record { first = first; second = second; third = third })
-
--- once an opcode is acknowledged every byte can begin a word
-pub begun-plain : (windows : List Window) (on : Bool) (register : ℕ) (next : Phase) (b : ℕ) → Plain (running windows on true register next) b
-unfolding isStart
-begun-plain windows on register next b = and-false (eqb b 0x58)
-
--- a list of four or more
-by-four : (P : List ℕ → Type 0) → ((a b c d : ℕ) (bs : List ℕ) → P (a ∷ b ∷ c ∷ d ∷ bs)) → (bs : List ℕ) → 4 ≤ length bs → P bs
-by-four P each bs h =
-    subst P
-    (sym (drop-cons bs 0 0 (omega arith) ∙ ap (λ l. getD bs 0 0 ∷ l) (drop-cons bs 1 0 (omega arith) ∙ ap (λ l. getD bs 1 0 ∷ l)
-    (drop-cons bs 2 0 (omega arith) ∙ ap (λ l. getD bs 2 0 ∷ l) (drop-cons bs 3 0 (omega arith))))))
-    (each (getD bs 0 0) (getD bs 1 0) (getD bs 2 0) (getD bs 3 0) (drop 4 bs))
-
--- a whole word of data, and the rest past it
-whole-word : (m : List ℕ) (place past left rest a b c d : ℕ) (bs : List ℕ) → past ≡ place + 4 → rest ≡ left
-    → loaded (loaded m place (a ∷ b ∷ c ∷ d ∷ take left [])) past (take rest bs) ≡ loaded m place (a ∷ b ∷ c ∷ d ∷ take left bs)
-whole-word m place past left rest a b c d bs p r = rw (p, r, take-nil) (loaded-append m place (a ∷ b ∷ c ∷ d ∷ []) (take left bs))
-
--- the data that are left after a word are loaded past it
-word-and-rest : (m : List ℕ) (end left a b c d : ℕ) (bs : List ℕ) → left ≤ end
-    → loaded (loaded m (end - left) (take left (a ∷ b ∷ c ∷ d ∷ []))) (end - (left - 4)) (take (left - 4) bs)
-    ≡ loaded m (end - left) (take left (a ∷ b ∷ c ∷ d ∷ bs))
-unfolding loaded put
-word-and-rest m end zero a b c d bs inside = refl
-word-and-rest m end (suc zero) a b c d bs inside = refl
-word-and-rest m end (suc (suc zero)) a b c d bs inside = refl
-word-and-rest m end (suc (suc (suc zero))) a b c d bs inside = refl
-word-and-rest m end (suc (suc (suc (suc left)))) a b c d bs inside =
-    whole-word m (end - suc (suc (suc (suc left)))) (end - (suc (suc (suc (suc left))) - 4)) left (suc (suc (suc (suc left))) - 4) a b c d bs
-    (omega arith) (omega arith)
-
-append-bytes : (bs cs : List ℕ) → AreBytes bs → AreBytes cs → AreBytes (bs ++ cs)
-append-bytes [] cs b< c< i = c< i
-append-bytes (b ∷ bs) cs b< c< zero = b< zero
-append-bytes (b ∷ bs) cs b< c< (suc i) = append-bytes bs cs (λ j. b< (suc j)) c< i
-
-awaits-data : (end left : ℕ) → 0 < left → awaited end left ≡ phase.Data end left
-unfolding awaited
-awaits-data end left some = passed _ _ _ (ne-eqb left 0 (λ e. omega arith))
+no-start : (bus : Bus) {opcode : ℕ} → Apart opcode → firstUnit bus opcode ≢ startUnit bus
+no-start Bytes apart = eqb-false _ _ (apart .no-byte)
+no-start Halves apart = eqb-false _ _ (apart .no-half)
 
 length-loaded : (m : List ℕ) (place : ℕ) (bs : List ℕ) → length (loaded m place bs) ≡ length m
 unfolding loaded
 length-loaded m place bs = length-put m place (length bs) _
 
-module _ (windows : List Window) (on : Bool) where
-  -- the state inside a command, and the one that awaits an opcode
-  abbrev pub taking : ℕ → Phase → List ℕ → State
-  taking register next m = ready (running windows on true register next) m
+module _ (bus : Bus) where
+  -- a word of a session that has begun
+  begun-ready : (k : Core) (m : List ℕ) (w : ℕ) → k .ended ≡ false → k .begun ≡ true → length m ≡ sumOf (k .windows) → w < 2 ^ 32 → Ready bus k m w
+  begun-ready k m w runs since lent small = record { running = runs; lent = lent; small = small; plain = λ e. absurd (true≢false (sym since ∙ e)) }
 
-  abbrev pub awaiting : Bool → ℕ → List ℕ → State
-  awaiting begun register m = ready (running windows on begun register phase.Opcode) m
+  -- the data of a load: word by word, each in silence
+  data-go : (ws : List ℕ) (k : Core) (m : List ℕ) (p n : ℕ) → k .ended ≡ false → k .begun ≡ true → length m ≡ sumOf (k .windows) → AreWords ws
+      → k .stage .phase ≡ awaited (p + n) n → length ws ≡ (n + 3) / 4
+      → Goes bus (atWord k m) (allUnits bus ws) (atWord (afterWords (quiet k leaving m) ws .answer .core) (afterWords (quiet k leaving m) ws .memory))
+      (heardQuiet bus ws)
+  unfolding afterWords heardQuiet
+  data-go [] k m p n runs since lent small at whole = nothing-goes bus (atWord k m)
+  data-go (w ∷ ws) k m p n runs since lent small at whole =
+      let more : 0 < n = omega arith in
+      let end : p + n ≡ p + length (dataBytes w n) + (n - 4) = omega (arith, data-length w n) in
+      let step = data-step k m p n w more at in
+      subst
+      (λ (o : Outcome). Goes bus (atWord k m) (unitsOf bus w ++ allUnits bus ws) (atWord (afterWords o ws .answer .core) (afterWords o ws .memory))
+      (heardSaid bus silence Nothing ++ heardQuiet bus ws))
+      (sym step)
+      (accepted-goes bus k m w (begun-ready k m w runs since lent (small .0)) step refl
+      then data-go ws _ _ (p + length (dataBytes w n)) (n - 4) runs since (length-loaded m p (dataBytes w n) ∙ lent) (small .1)
+      (ap (λ (e : ℕ). awaited e (n - 4)) end) (omega arith))
 
-  -- an argument or data word
-  argument-goes : {register : ℕ} {next : Phase} (m : List ℕ) → length m ≡ sumOf windows → (w : ℕ) → w < 2 ^ 32
-      → {event : Event} {reply : Reply} {k : Core} {left : List ℕ}
-      → wordStep (running windows on true register next) m w ≡ accepted reply event k left
-      → Goes (taking register next m) (four w) (ready k left) (heardWord reply event)
-  argument-goes {register} {next} m lent w small e =
-      word-goes _ m refl lent (byte w 0) (byte w 1) (byte w 2) (byte w 3) (begun-plain windows on register next _) (rw (word-again w small) e)
+module _ (bus : Bus) (windows : List Window) (on : Bool) where
+  module _ (c : Command) (register : ℕ) (m : List ℕ) (lent : length m ≡ sumOf windows) where
+    -- inside a command
+    abbrev core : Core
+    core = running windows on true register phase.Opcode
 
-  -- the data of a load, in n words
-  abbrev DataGoes : ℕ → List ℕ → Type 0
-  DataGoes n bs = (register end left : ℕ) (m : List ℕ) → length m ≡ sumOf windows → AreBytes bs → n ≡ (left + 3) / 4 → left ≤ end
-      → Goes (taking register (awaited end left) m) bs
-      (taking (dataFed on n register left bs) phase.Opcode (loaded m (end - left) (take left bs))) (heardData n)
+    -- the argument words that are left
+    arguments-go : (kept : Kept) (word : ℕ) (rest : List ℕ) → AreWords (word ∷ rest) → {reply : Reply} {event : Event} {k : Core} {left : List ℕ}
+        → doneAtLast c core m kept word rest ≡ accepted reply event k left
+        → Goes bus (atWord (asking core c (suc (length rest)) kept) m) (allUnits bus (word ∷ rest)) (atWord k left) (heardThen bus rest reply event)
+    unfolding doneAtLast heardThen
+    arguments-go kept word [] small e =
+        accepted-goes bus _ m word (begun-ready bus _ m word refl refl lent (small .0)) (word-last c core m kept word ∙ e) refl then nothing-goes bus _
+    arguments-go kept word (next ∷ rest) small e =
+        accepted-goes bus _ m word (begun-ready bus _ m word refl refl lent (small .0)) (word-kept c core m kept word (length rest)) refl
+        then arguments-go (keeping kept word) next rest (small .1) e
 
-  no-data : (register end left : ℕ) (m : List ℕ) → left ≡ 0
-      → Goes (taking register (awaited end left) m) []
-      (taking register phase.Opcode (loaded m (end - left) (take left []))) []
-  unfolding awaited pick loaded put
-  no-data register end left m e = rw e (nothing-goes _)
-
-  one-word : (register end left a b c d : ℕ) (m : List ℕ) → length m ≡ sumOf windows → (0 < left) → a < 256 → b < 256 → c < 256 → d < 256
-      → Goes (taking register (awaited end left) m) (a ∷ b ∷ c ∷ d ∷ [])
-      (taking (pick on (checksum.fed register (wordOf a b c d) (8 * min left 4)) register) (awaited end (left - 4))
-      (loaded m (end - left) (take left (a ∷ b ∷ c ∷ d ∷ [])))) heardQuiet
-  unfolding wordStep
-  one-word register end left a b c d m lent some a< b< c< d< =
-      rw (awaits-data end left some)
-      (word-goes (running windows on true register (phase.Data end left)) m refl lent a b c d (begun-plain windows on register (phase.Data end left) a)
-      (ap (accepted silence Nothing _) (ap (λ (bs : List ℕ). loaded m (end - left) (take left bs)) (bytes-again a b c d a< b< c< d<))))
-
-  more-data : (n a b c d : ℕ) (bs : List ℕ) → DataGoes n bs → DataGoes (suc n) (a ∷ b ∷ c ∷ d ∷ bs)
-  unfolding dataFed heardData
-  more-data n a b c d bs rest register end left m lent small words inside =
-      reaching
-      (one-word register end left a b c d m lent (omega arith) (small 0) (small 1) (small 2) (small 3)
-      then rest _ end (left - 4) _ (length-loaded m (end - left) _ ∙ lent) (λ i. small (suc (suc (suc (suc i))))) (omega arith) (omega arith))
-      (ap (taking _ phase.Opcode) (word-and-rest m end left a b c d bs inside))
-
-  data-goes : (n : ℕ) (bs : List ℕ) → length bs ≡ 4 * n → DataGoes n bs
-  unfolding dataFed heardData
-  data-goes zero [] whole = λ register end left m lent small words inside. no-data register end left m (omega arith)
-  data-goes zero (b ∷ bs) whole = absurd (omega arith)
-  data-goes (suc n) bs whole =
-      by-four (λ bs. length bs ≡ 4 * suc n → DataGoes (suc n) bs) (λ a b c d bs whole. more-data n a b c d bs (data-goes n bs (omega arith)))
-      bs (omega arith) whole
+    -- none of which is refused, nor is the command
+    arguments-accepted : (kept : Kept) (word : ℕ) (rest more : List ℕ) → AreWords (word ∷ rest)
+        → NoneRefused bus (atWord (asking core c (suc (length rest)) kept) m) (allUnits bus (word ∷ (rest ++ more)))
+        → doneAtLast c core m kept word rest .answer .refusal ≡ refusal.None
+    unfolding doneAtLast
+    arguments-accepted kept word [] more small n =
+        sym (ap (λ (o : Outcome). o .answer .refusal) (word-last c core m kept word))
+        ∙ word-accepted bus _ m word (begun-ready bus _ m word refl refl lent (small .0)) (none-refused-append bus _ (unitsOf bus word) _ n .0)
+    arguments-accepted kept word (next ∷ rest) more small n =
+        let first = accepted-goes bus _ m word (begun-ready bus _ m word refl refl lent (small .0)) (word-kept c core m kept word (length rest)) refl in
+        arguments-accepted (keeping kept word) next rest more (small .1)
+        (subst (λ (x : State). NoneRefused bus x (allUnits bus (next ∷ (rest ++ more)))) (first .leads) (none-refused-append bus _ (unitsOf bus word) _ n .1))
 
   module _ (begun : Bool) (register : ℕ) (m : List ℕ) (lent : length m ≡ sumOf windows) where
     -- an opcode, begun or not
-    pub opcode-goes : (opcode : ℕ) → opcode < 2 ^ 32 → eqb (byte opcode 0) 0x58 ≡ false → {reply : Reply} {k : Core}
-        → wordStep (running windows on begun register phase.Opcode) m opcode ≡ accepted reply Nothing k m
-        → Goes (awaiting begun register m) (four opcode) (ready k m) (heardWord reply Nothing)
-    unfolding isStart
-    opcode-goes opcode small other e =
-        word-goes _ m refl lent (byte opcode 0) (byte opcode 1) (byte opcode 2) (byte opcode 3)
-        (ap (λ (t : Bool). t && not begun) other) (rw (word-again opcode small) e)
+    opcode-ready : (opcode : ℕ) → Apart opcode → Ready bus (running windows on begun register phase.Opcode) m opcode
+    opcode-ready opcode apart = record { running = refl; lent = lent; small = apart .small; plain = λ e. no-start bus apart }
 
-    -- those of a load, a fill and a setting, of Request and Start-Over
-    load-opcode : Goes (awaiting begun register m) (four loadOpcode) (taking register (phase.Argument command.Load 2 noneKept) m) (heardOpcode loadOpcode)
-    unfolding wordStep lookedUp foundIn rows rowServes pick acknowledging oneWord wordThen byte
-    load-opcode = opcode-goes loadOpcode (lit< tt) refl refl
+    -- one that has no words
+    pub opcode-goes : (opcode : ℕ) (c : Command) → Apart opcode → lookedUp opcode Sent ≡ Known c 0 → {reply : Reply} {event : Event} {k : Core} {left : List ℕ}
+        → opening opcode (performed c (running windows on true register phase.Opcode) m noneKept 0) ≡ accepted reply event k left
+        → Goes bus (awaiting windows on begun register m) (unitsOf bus opcode) (atWord k left) (heardSaid bus reply event)
+    unfolding afterWords
+    opcode-goes opcode c apart known e =
+        accepted-goes bus _ m opcode (opcode-ready opcode apart) (by-the-table .done _ m opcode c 0 [] refl known refl ∙ e) refl
 
-    fill-opcode : Goes (awaiting begun register m) (four fillOpcode) (taking register (phase.Argument command.Fill 4 noneKept) m) (heardOpcode fillOpcode)
-    unfolding wordStep lookedUp foundIn rows rowServes pick acknowledging oneWord wordThen byte
-    fill-opcode = opcode-goes fillOpcode (lit< tt) refl refl
+    -- one that has, up to the word that decides
+    module _ (opcode : ℕ) (c : Command) (word : ℕ) (rest : List ℕ) (apart : Apart opcode) (known : lookedUp opcode Sent ≡ Known c (suc (length rest)))
+        (small : AreWords (word ∷ rest)) where
+      asked-goes : Goes bus (awaiting windows on begun register m) (unitsOf bus opcode)
+          (atWord (asking (running windows on true register phase.Opcode) c (suc (length rest)) noneKept) m)
+          (heardSaid bus (oneWord (acknowledged opcode)) Nothing)
+      asked-goes = accepted-goes bus _ m opcode (opcode-ready opcode apart) (opcode-asks _ m opcode (length rest) refl known) refl
 
-    setting-opcode : Goes (awaiting begun register m) (four settingOpcode) (taking register (phase.Argument command.BootTable 4 noneKept) m) (heardOpcode settingOpcode)
-    unfolding wordStep lookedUp foundIn rows rowServes pick acknowledging oneWord wordThen byte
-    setting-opcode = opcode-goes settingOpcode (lit< tt) refl refl
+      command-goes : {reply : Reply} {event : Event} {k : Core} {left : List ℕ}
+          → doneAtLast c (running windows on true register phase.Opcode) m noneKept word rest ≡ accepted reply event k left
+          → Goes bus (awaiting windows on begun register m) (allUnits bus (opcode ∷ word ∷ rest)) (atWord k left)
+          (heardSaid bus (oneWord (acknowledged opcode)) Nothing ++ heardThen bus rest reply event)
+      command-goes e = asked-goes then arguments-go c register m lent noneKept word rest small e
 
-    pub request-goes : Goes (awaiting begun register m) (four requestOpcode) (awaiting true 0 m) (heardWord (wordThen (acknowledged requestOpcode) (oneWord register)) Nothing)
-    unfolding wordStep lookedUp foundIn rows rowServes pick acknowledging oneWord wordThen byte
-    request-goes = opcode-goes requestOpcode (lit< tt) refl refl
+      pub command-accepted : (more : List ℕ) → NoneRefused bus (awaiting windows on begun register m) (allUnits bus (opcode ∷ word ∷ (rest ++ more)))
+          → doneAtLast c (running windows on true register phase.Opcode) m noneKept word rest .answer .refusal ≡ refusal.None
+      command-accepted more n =
+          arguments-accepted c register m lent noneKept word rest more small
+          (subst (λ (x : State). NoneRefused bus x (allUnits bus (word ∷ (rest ++ more)))) (asked-goes .leads)
+          (none-refused-append bus _ (unitsOf bus opcode) _ n .1))
 
-    pub start-over-goes : Goes (awaiting begun register m) (four startOverOpcode) (awaiting true 0 m) (heardOpcode startOverOpcode)
-    unfolding wordStep lookedUp foundIn rows rowServes pick acknowledging oneWord wordThen byte
-    start-over-goes = opcode-goes startOverOpcode (lit< tt) refl refl
+    -- Request and Start-Over
+    pub request-goes : Goes bus (awaiting windows on begun register m) (unitsOf bus requestOpcode) (awaiting windows on true 0 m)
+        (heardSaid bus (wordThen (acknowledged requestOpcode) (oneWord register)) Nothing)
+    unfolding lookedUp foundIn rows rowServes pick acknowledging byte
+    request-goes = opcode-goes requestOpcode command.Request (record { small = lit< tt; no-byte = refl; no-half = refl }) refl refl
 
-    -- up to the word that decides
-    pub load-begins : (address : ℕ) → address < 2 ^ 32
-        → Goes (awaiting begun register m) (four loadOpcode ++ four address) (taking register (lastWord command.Load 0 0 address) m) (heardOpcode loadOpcode ++ heardQuiet)
-    unfolding wordStep pick
-    load-begins address h = load-opcode then argument-goes m lent address h refl
+    pub start-over-goes : Goes bus (awaiting windows on begun register m) (unitsOf bus startOverOpcode) (awaiting windows on true 0 m)
+        (heardSaid bus (wordThen (acknowledged startOverOpcode) silence) Nothing)
+    unfolding lookedUp foundIn rows rowServes pick acknowledging byte
+    start-over-goes = opcode-goes startOverOpcode command.StartOver (record { small = lit< tt; no-byte = refl; no-half = refl }) refl refl
 
-    pub fill-begins : (address size kind : ℕ) → address < 2 ^ 32 → size < 2 ^ 32 → kind < 2 ^ 32
-        → Goes (awaiting begun register m) (four fillOpcode ++ four address ++ four size ++ four kind)
-        (taking register (lastWord command.Fill address size kind) m) (heardOpcode fillOpcode ++ heardQuiet ++ heardQuiet ++ heardQuiet)
-    unfolding wordStep pick
-    fill-begins address size kind address< size< kind< =
-        fill-opcode then argument-goes m lent address address< refl then argument-goes m lent size size< refl then argument-goes m lent kind kind< refl
+    -- a load that is granted at its size word, and its data
+    module _ (address size place : ℕ) (granted : loadJudged windows address size ≡ Granted place) where
+      abbrev loading : Core
+      loading = running windows on true (pick on (checksum.fedWords register (address ∷ size ∷ [])) register) (awaited (place + size) size)
 
-    pub setting-begins : (word address value : ℕ) → word < 2 ^ 32 → address < 2 ^ 32 → value < 2 ^ 32
-        → Goes (awaiting begun register m) (four settingOpcode ++ four word ++ four address ++ four value)
-        (taking register (lastWord command.BootTable word address value) m) (heardOpcode settingOpcode ++ heardQuiet ++ heardQuiet ++ heardQuiet)
-    unfolding wordStep pick
-    setting-begins word address value word< address< value< =
-        setting-opcode then argument-goes m lent word word< refl then argument-goes m lent address address< refl
-        then argument-goes m lent value value< refl
+      load-begins : address < 2 ^ 32 → size < 2 ^ 32
+          → Goes bus (awaiting windows on begun register m) (allUnits bus (loadOpcode ∷ address ∷ size ∷ [])) (atWord loading m)
+          (heardCommand bus loadOpcode (size ∷ []) Nothing)
+      unfolding lookedUp foundIn rows rowServes pick doneAtLast
+      load-begins address< size< =
+          command-goes loadOpcode command.Load address (size ∷ []) load-apart refl
+          (address<, (size<, tt))
+          (ap (λ (j : Judged). loadBegun (asking (running windows on true register phase.Opcode) command.Load 1 (keeping noneKept address)) address size j leaving m) granted)
+
+      load-lands : (contents : List ℕ) → length contents ≡ (size + 3) / 4
+          → atWord (afterWords (quiet loading leaving m) contents .answer .core) (afterWords (quiet loading leaving m) contents .memory)
+          ≡ awaiting windows on true (pick on (loadFed register address (bytesLoaded size contents)) register) (loaded m place (bytesLoaded size contents))
+      load-lands contents whole =
+          let k = asking (running windows on true register phase.Opcode) command.Load 1 (keeping noneKept address) in
+          ap (λ (o : Outcome). atWord (o .answer .core) (o .memory))
+          (sym (ap (λ (j : Judged). afterWords (loadBegun k address size j leaving m) contents) granted)
+          ∙ load-in-pieces k m (keeping noneKept address) size place contents granted whole)
 
     -- a granted command
     pub piece-goes : (c : Piece) → Sendable c → {place : ℕ} → judgedOf windows c ≡ Granted place
-        → Goes (awaiting begun register m) (bytesOf c) (awaiting true (registerOf on c register) (memoryOf windows c m)) (heardOf c)
-    unfolding bytesOf wordStep after fillDone fillMemory settingDone settingMemory pick
-    piece-goes (load address bytes pads) sendable {place} granted =
+        → Goes bus (awaiting windows on begun register m) (allUnits bus (wordsOf c)) (awaiting windows on true (registerOf on c register) (memoryOf windows c m))
+        (heardOf bus c)
+    unfolding lookedUp foundIn rows rowServes pick doneAtLast after fillDone fillMemory settingDone settingMemory
+    piece-goes (load address size contents) sendable {place} granted =
         rw granted
+        (words-go (loadOpcode ∷ address ∷ size ∷ []) contents (load-begins address size place granted (sendable .0 .1 .0) (sendable .0 .1 .1 .0))
         (reaching
-        (load-begins address (sendable .0)
-        then argument-goes m lent (length bytes) (sendable .1) (rw granted refl)
-        then data-goes ((length bytes + 3) / 4) (bytes ++ pads) (length-append bytes pads ∙ sendable .4) _ (place + length bytes) (length bytes) m lent
-        (append-bytes bytes pads (sendable .2) (sendable .3)) refl (omega arith))
-        (ap (taking _ phase.Opcode) (ap₂ (loaded m) (omega arith) (take-append-seam bytes pads))))
+        (data-go bus contents (loading address size place granted) m place size refl refl lent (sendable .0 .1 .1 .1) refl (sendable .1))
+        (load-lands address size place granted contents (sendable .1))))
     piece-goes (fill address size kind pattern) sendable granted =
-        fill-begins address size kind (sendable .0) (sendable .1) (sendable .2)
-        then argument-goes m lent pattern (sendable .3) (rw granted refl)
+        command-goes fillOpcode command.Fill address (size ∷ kind ∷ pattern ∷ []) fill-apart refl
+        (sendable .0 .1) (rw granted refl)
     piece-goes (setting word address value delay) sendable granted =
-        setting-begins word address value (sendable .0) (sendable .1) (sendable .2)
-        then argument-goes m lent delay (sendable .3) (rw granted refl)
+        command-goes settingOpcode command.BootTable word (address ∷ value ∷ delay ∷ []) setting-apart refl
+        (sendable .0 .1) (rw granted refl)

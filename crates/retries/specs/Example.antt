@@ -1,4 +1,5 @@
--- A worked instance: two fields of one word and a load, tried, asked about and abandoned, then sent again with other data.
+-- A worked instance on either line: two fields of one word and a load, tried, asked about and abandoned, then sent again with other data; and
+-- counterexamples on the line of bytes.
 use Prim.Native.Nat.{ℕ}
 use mathlib.Core.Bool.{true, false}
 use mathlib.Core.List.{List, [], _∷_, _++_}
@@ -8,10 +9,13 @@ use Rattle.windows.specs.Map.{zeroWindow}
 use Rattle.windows.specs.declared.Window.{Window}
 use Rattle.script.specs.declared.Event.the-variants.{Nothing}
 use Rattle.script.specs.declared.Refusal.the-variants.{Memory}
+use Rattle.sent.specs.Bus.{startUnit, unitsOf}
+use Rattle.sent.specs.Feeding.{State, heard}
 use Rattle.sent.specs.Replies.{silence}
-use Rattle.retries.specs.Feeding.{State, heard, fed}
-use Rattle.retries.specs.Pieces.{Piece, load, setting, four, enableOpcode, bytesOf, allBytes, Covers}
-use Rattle.retries.specs.Retries.{Awaits, Begins, sinceOpening, Reached, AtStart, JustAfter, Attempt, attemptBytes, NoTrace, Accepted, Retried}
+use Rattle.sent.specs.declared.Bus.{Bus}
+use Rattle.sent.specs.declared.Bus.the-variants.{Bytes}
+use Rattle.retries.specs.Pieces.{Piece, load, setting, enableOpcode, wordsOf, allWords, Covers}
+use Rattle.retries.specs.Retries.{after, Awaits, Begins, sinceOpening, Reached, AtStart, JustAfter, Attempt, attemptWords, NoTrace, Accepted, Retried}
 
 -- a window of eight bytes, and what they hold
 abbrev pub windows : List Window
@@ -21,69 +25,70 @@ abbrev pub before : List ℕ
 before = 0x7F ∷ 0 ∷ 0 ∷ 0 ∷ 0xAA ∷ 0xAA ∷ 0xAA ∷ 0xAA ∷ []
 
 -- a session on them, opened, started, the checksum on
-unfoldable pub start : State
-start = sinceOpening 1 windows before (0x58 ∷ four enableOpcode)
+unfoldable pub start : Bus → State
+start bus = sinceOpening bus 1 windows before (startUnit bus ∷ unitsOf bus enableOpcode)
 
--- a field of the first word, bits 8 to 11 of it, and three bytes from the second word on with a pad byte
-abbrev pub sent : ℕ → ℕ → ℕ → List ℕ → List Piece
-sent field low high bytes = setting field 0x80000000 low 0 ∷ setting 0x000B0803 0x80000000 high 0 ∷ load 0x80000004 bytes (0xEE ∷ []) ∷ []
+-- a field of the first word, bits 8 to 11 of it, and three bytes from the second word on; the top byte of their word is a pad byte
+abbrev pub sent : ℕ → ℕ → ℕ → ℕ → List Piece
+sent field low high word = setting field 0x80000000 low 0 ∷ setting 0x000B0803 0x80000000 high 0 ∷ load 0x80000004 3 (word ∷ []) ∷ []
 
 -- the attempt, with bits 4 to 6, and the same with the data that were meant
 abbrev pub abandoned : Attempt
-abandoned = record { pieces = sent 0x00060403 2 0xF (1 ∷ 2 ∷ 3 ∷ []); asked = true }
+abandoned = record { pieces = sent 0x00060403 2 0xF 0xEE030201; asked = true }
 
 abbrev pub repeated : List Piece
-repeated = sent 0x00060403 1 2 (0x11 ∷ 0x22 ∷ 0x33 ∷ [])
+repeated = sent 0x00060403 1 2 0xEE332211
 
 -- the premises are met, from the opening on; the attempt changes memory; after the repeat nothing is left of it
-pub record Worked : Type 0 where
-  pub just-after : JustAfter start
-  pub retried : Retried start (attemptBytes abandoned) (abandoned .pieces) repeated
-  pub no-trace : NoTrace start (attemptBytes abandoned) (allBytes repeated)
-  pub after-attempt : fed start (attemptBytes abandoned) .memory ≡ 0x2F ∷ 0x0F ∷ 0 ∷ 0 ∷ 1 ∷ 2 ∷ 3 ∷ 0xAA ∷ []
-  pub after-repeat : fed start (attemptBytes abandoned ++ allBytes repeated) .memory ≡ 0x1F ∷ 0x02 ∷ 0 ∷ 0 ∷ 0x11 ∷ 0x22 ∷ 0x33 ∷ 0xAA ∷ []
-  pub never-tried : fed start (allBytes repeated) .memory ≡ 0x1F ∷ 0x02 ∷ 0 ∷ 0 ∷ 0x11 ∷ 0x22 ∷ 0x33 ∷ 0xAA ∷ []
+pub record Worked (bus : Bus) : Type 0 where
+  pub just-after : JustAfter bus (start bus)
+  pub retried : Retried bus (start bus) (attemptWords abandoned) (abandoned .pieces) repeated
+  pub no-trace : NoTrace bus (start bus) (attemptWords abandoned) (allWords repeated)
+  pub after-attempt : after bus (start bus) (attemptWords abandoned) .memory ≡ 0x2F ∷ 0x0F ∷ 0 ∷ 0 ∷ 1 ∷ 2 ∷ 3 ∷ 0xAA ∷ []
+  pub after-repeat : after bus (start bus) (attemptWords abandoned ++ allWords repeated) .memory
+      ≡ 0x1F ∷ 0x02 ∷ 0 ∷ 0 ∷ 0x11 ∷ 0x22 ∷ 0x33 ∷ 0xAA ∷ []
+  pub never-tried : after bus (start bus) (allWords repeated) .memory ≡ 0x1F ∷ 0x02 ∷ 0 ∷ 0 ∷ 0x11 ∷ 0x22 ∷ 0x33 ∷ 0xAA ∷ []
 
 -- what follows misses bit 6 of the attempt's first field, and all else is met: the bit stays
 abbrev pub missing : List Piece
-missing = sent 0x00050403 1 2 (0x11 ∷ 0x22 ∷ 0x33 ∷ [])
+missing = sent 0x00050403 1 2 0xEE332211
 
 pub record OneBitMissed : Type 0 where
-  pub begins : Begins start
-  pub accepted : Accepted start (attemptBytes abandoned) (abandoned .pieces) missing
-  pub trace : NoTrace start (attemptBytes abandoned) (allBytes missing) → ⊥
+  pub begins : Begins (start Bytes)
+  pub accepted : Accepted Bytes (start Bytes) (attemptWords abandoned) (abandoned .pieces) missing
+  pub trace : NoTrace Bytes (start Bytes) (attemptWords abandoned) (allWords missing) → ⊥
 
 -- an attempt begins after a load, so that the register is not 0, and all else is met: Start-Over takes the load back from the checksum
 unfoldable pub middle : State
-middle = fed start (bytesOf (load 0x80000004 (1 ∷ 2 ∷ 3 ∷ []) (0xEE ∷ [])))
+middle = after Bytes (start Bytes) (wordsOf (load 0x80000004 3 (0xEE030201 ∷ [])))
 
 abbrev pub nothing : Attempt
 nothing = record { pieces = []; asked = false }
 
 pub record InTheMiddle : Type 0 where
   pub awaits : Awaits middle
-  pub accepted : Accepted middle (attemptBytes nothing) [] repeated
+  pub accepted : Accepted Bytes middle (attemptWords nothing) [] repeated
   pub covered : Covers windows [] repeated
-  pub trace : NoTrace middle (attemptBytes nothing) (allBytes repeated) → ⊥
+  pub trace : NoTrace Bytes middle (attemptWords nothing) (allWords repeated) → ⊥
 
--- nothing follows an attempt that begins at the start word: that an opcode has been acknowledged is a trace
-unfoldable pub started : State
-started = sinceOpening 1 windows before (0x58 ∷ [])
+-- nothing follows an attempt that begins at the start unit: that an opcode has been acknowledged is a trace
+unfoldable pub started : Bus → State
+started bus = sinceOpening bus 1 windows before (startUnit bus ∷ [])
 
 pub record NothingFollows : Type 0 where
-  pub just-after : JustAfter started
-  pub begins : Begins started
-  pub accepted : Accepted started (attemptBytes nothing) [] []
-  pub trace : NoTrace started (attemptBytes nothing) [] → ⊥
+  pub just-after : JustAfter Bytes (started Bytes)
+  pub begins : Begins (started Bytes)
+  pub accepted : Accepted Bytes (started Bytes) (attemptWords nothing) [] []
+  pub trace : NoTrace Bytes (started Bytes) (attemptWords nothing) [] → ⊥
 
--- a byte of memory is missing, and all else is met: the start word is refused with 2, not answered
+-- a byte of memory is missing, and all else is met: the start unit is refused with 2, not answered
 abbrev pub shorter : List ℕ
 shorter = 0x7F ∷ 0 ∷ 0 ∷ 0 ∷ 0xAA ∷ 0xAA ∷ 0xAA ∷ []
 
 unfoldable pub short : State
-short = sinceOpening 1 windows shorter []
+short = sinceOpening Bytes 1 windows shorter []
 
 pub record MemoryTooShort : Type 0 where
-  pub reached : Reached short
+  pub reached : Reached Bytes short
   pub at-start : AtStart short
-  pub refused : heard short 0x58 ≡ record { refusal = Memory; reply = silence; event = Nothing }
+  pub refused : heard Bytes short (startUnit Bytes) ≡ record { refusal = Memory; reply = silence; event = Nothing }

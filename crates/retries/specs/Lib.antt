@@ -1,4 +1,3 @@
 pub mod Example
-pub mod Feeding
 pub mod Pieces
 pub mod Retries

@@ -1,15 +1,16 @@
 -- Loads, fills and settings as they are sent, and the bits that they write.
-use Prim.Native.Nat.{ℕ, _+_, _*_, _/_, _<_, _^_}
+use Prim.Native.Nat.{ℕ, _+_, _/_, _<_, _^_}
 use mathlib.Core.Bool.{Bool, true, false, _||_}
 use mathlib.Core.List.{List, [], _∷_, _++_}
 use mathlib.Core.Path.{_≡_}
-use lib.ListN.{length, getD}
-use Rattle.words.specs.Bytes.{byte}
+use lib.ListN.{length, take}
 use Rattle.windows.specs.declared.Window.{Window}
 use Rattle.commands.specs.Commands.{loadJudged, unitOf, fillJudged, shapeOf, settingJudged}
 use Rattle.commands.specs.declared.Judged.{Judged}
 use Rattle.commands.specs.declared.Judged.the-variants.{Granted, Refused}
 use Rattle.effects.specs.Effects.{Effect, writes, noEffect, loadEffect, fillEffect, settingEffect}
+use Rattle.sent.specs.Bus.{allUnits}
+use Rattle.sent.specs.declared.Bus.the-variants.{Bytes}
 
 -- the opcodes that are sent here
 abbrev pub loadOpcode : ℕ
@@ -30,37 +31,41 @@ requestOpcode = 0x58535902
 abbrev pub startOverOpcode : ℕ
 startOverOpcode = 0x58535908
 
--- a command that writes: a load with its data and whatever pad bytes, a fill, a setting
+-- a command that writes: a load of so many bytes with its words of data, a fill, a setting
 pub data Piece : Type 0 where
-  load : (address : ℕ) (bytes pads : List ℕ) → Piece
+  load : (address size : ℕ) (contents : List ℕ) → Piece
   fill : (address size kind pattern : ℕ) → Piece
   setting : (word address value delay : ℕ) → Piece
 
--- a word on the line, lowest byte first
-abbrev pub four : ℕ → List ℕ
-four w = byte w 0 ∷ byte w 1 ∷ byte w 2 ∷ byte w 3 ∷ []
-
--- the bytes of a command
-unfoldable pub bytesOf : Piece → List ℕ
-bytesOf (load address bytes pads) = four loadOpcode ++ four address ++ four (length bytes) ++ bytes ++ pads
-bytesOf (fill address size kind pattern) = four fillOpcode ++ four address ++ four size ++ four kind ++ four pattern
-bytesOf (setting word address value delay) = four settingOpcode ++ four word ++ four address ++ four value ++ four delay
+-- the words of a command
+abbrev pub wordsOf : Piece → List ℕ
+wordsOf (load address size contents) = loadOpcode ∷ address ∷ size ∷ contents
+wordsOf (fill address size kind pattern) = fillOpcode ∷ address ∷ size ∷ kind ∷ pattern ∷ []
+wordsOf (setting word address value delay) = settingOpcode ∷ word ∷ address ∷ value ∷ delay ∷ []
 
 -- of several commands, one after the other
-unfoldable pub allBytes : List Piece → List ℕ
-allBytes [] = []
-allBytes (c ∷ cs) = bytesOf c ++ allBytes cs
+unfoldable pub allWords : List Piece → List ℕ
+allWords [] = []
+allWords (c ∷ cs) = wordsOf c ++ allWords cs
 
--- every element of a list is below 256
-abbrev pub AreBytes : List ℕ → Type 0
-AreBytes bs = (i : ℕ) → getD bs i 0 < 256
+-- the bytes that a load loads: the first of its words' bytes, as many as its size says; the others are pad bytes
+abbrev pub bytesLoaded : ℕ → List ℕ → List ℕ
+bytesLoaded size contents = take size (allUnits Bytes contents)
 
--- a command that can be sent: its words are words, its data are bytes and padded to whole words
+-- every element of a list is a word
+abbrev pub AreWords : List ℕ → Type 0
+AreWords [] = Unit {0}
+AreWords (w ∷ ws) = (w < 2 ^ 32) × AreWords ws
+
+-- a load has as many words of data as its size needs
+abbrev pub Complete : Piece → Type 0
+Complete (load address size contents) = length contents ≡ (size + 3) / 4
+Complete (fill address size kind pattern) = Unit {0}
+Complete (setting word address value delay) = Unit {0}
+
+-- a command that can be sent
 abbrev pub Sendable : Piece → Type 0
-Sendable (load address bytes pads) =
-    (address < 2 ^ 32) × (length bytes < 2 ^ 32) × AreBytes bytes × AreBytes pads × (length bytes + length pads ≡ 4 * ((length bytes + 3) / 4))
-Sendable (fill address size kind pattern) = (address < 2 ^ 32) × (size < 2 ^ 32) × (kind < 2 ^ 32) × (pattern < 2 ^ 32)
-Sendable (setting word address value delay) = (word < 2 ^ 32) × (address < 2 ^ 32) × (value < 2 ^ 32) × (delay < 2 ^ 32)
+Sendable c = AreWords (wordsOf c) × Complete c
 
 unfoldable pub AllSendable : List Piece → Type 0
 AllSendable [] = Unit {0}
@@ -68,13 +73,13 @@ AllSendable (c ∷ cs) = Sendable c × AllSendable cs
 
 -- how the map judges a command: its place in memory, or a refusal
 abbrev pub judgedOf : List Window → Piece → Judged
-judgedOf windows (load address bytes pads) = loadJudged windows address (length bytes)
+judgedOf windows (load address size contents) = loadJudged windows address size
 judgedOf windows (fill address size kind pattern) = fillJudged windows address size kind
 judgedOf windows (setting word address value delay) = settingJudged windows word address value
 
 -- the bits that a command writes from a place on: of a load or fill those of its range, of a setting those of its unit or field
 abbrev pub effectAt : Piece → ℕ → Effect
-effectAt (load address bytes pads) place = loadEffect place bytes
+effectAt (load address size contents) place = loadEffect place (bytesLoaded size contents)
 effectAt (fill address size kind pattern) place = fillEffect place size (unitOf kind) pattern
 effectAt (setting word address value delay) place = settingEffect place (shapeOf word) value
 

@@ -1,6 +1,6 @@
 -- The words of a command do what the command does, whatever the command: its opcode sets how many words are to come, each word but the last is kept and
 -- counted down, and at the last the one definition is met. By induction over the words; no case goes by the command.
-use Prim.Native.Nat.{ℕ, zero, suc, _+_, _-_}
+use Prim.Native.Nat.{ℕ, suc, _+_, _-_}
 use mathlib.Core.List.{List, [], _∷_, _++_}
 use mathlib.Core.Path.{_≡_, refl, sym, ap, subst, _∙_}
 use native.Mathlib.Omega.{arith}
@@ -13,26 +13,27 @@ use Rattle.script.specs.declared.Command.{Command}
 use Rattle.script.specs.declared.Found.{Found}
 use Rattle.script.specs.declared.Found.the-variants.{Known}
 use Rattle.script.specs.declared.Mode.the-variants.{Sent}
-use Rattle.sent.specs.Machine.{Outcome, await, quiet, _leaving_, noneKept, keeping, performed, toward, begun, acknowledging, opening, atOpcode, inPhase, wordStep}
+use Rattle.sent.specs.Machine.{Outcome, said, quiet, _leaving_, noneKept, keeping, performed, toward, begun, acknowledging, opening, atOpcode, inPhase, wordStep}
+use Rattle.sent.specs.Replies.{oneWord, wordThen, acknowledged}
 use Rattle.sent.specs.Words.{afterWords, keptAfter, asking, doneAtLast, doneWith, ByTheTable}
 use Rattle.sent.specs.declared.Core.{Core}
 use Rattle.sent.specs.declared.Kept.{Kept}
 use Rattle.sent.specs.declared.Phase.{Phase}
-use Rattle.sent.specs.declared.Phase.the-variants.{Opcode, Argument}
+use Rattle.sent.specs.declared.Phase.the-variants.{Opcode}
 
 -- a word with others to come, and the last
 module _ (command : Command) (k : Core) (m : List ℕ) (kept : Kept) (word : ℕ) where
   toward-more : (left : ℕ) → toward command (suc left) k m kept word ≡ quiet (asking k command (suc left) (keeping kept word)) leaving m
   toward-more left = passed _ _ _ (ne-eqb (suc left) 0 (λ e. omega arith))
 
-  word-kept : (left : ℕ) → wordStep (asking k command (suc (suc left)) kept) m word ≡ quiet (asking k command (suc left) (keeping kept word)) leaving m
+  pub word-kept : (left : ℕ) → wordStep (asking k command (suc (suc left)) kept) m word ≡ quiet (asking k command (suc left) (keeping kept word)) leaving m
   unfolding wordStep
   word-kept left =
       let one-less : suc (suc left) - 1 ≡ suc left = omega arith in
       ap (λ (n : ℕ). toward command n (asking k command (suc (suc left)) kept) m kept word) one-less
       ∙ passed _ _ _ (ne-eqb (suc left) 0 (λ e. omega arith))
 
-  word-last : wordStep (asking k command 1 kept) m word ≡ performed command (asking k command 1 kept) m kept word
+  pub word-last : wordStep (asking k command 1 kept) m word ≡ performed command (asking k command 1 kept) m kept word
   unfolding wordStep
   word-last = chosen _ _ _ (eq-eqb (1 - 1) 0 refl)
 
@@ -72,23 +73,28 @@ after-append o (w ∷ ws) vs = after-append (wordStep (o .answer .core) (o .memo
 -- an opcode that the table has
 module _ (k : Core) (m : List ℕ) (opcode : ℕ) {command : Command} {words : ℕ} (idle : k .stage .phase ≡ Opcode)
     (known : lookedUp opcode Sent ≡ Known command words) where
-  opcode-step : wordStep k m opcode ≡ opening opcode (toward command words (begun k) m noneKept 0)
+  pub opcode-step : wordStep k m opcode ≡ opening opcode (toward command words (begun k) m noneKept 0)
   unfolding wordStep
   opcode-step = ap (λ (p : Phase). inPhase p k m opcode) idle ∙ ap (λ (f : Found). atOpcode k m opcode f) known
 
--- what is said of an accepted word does not touch its core
-acknowledged-core : (opcode : ℕ) (k : Core) → acknowledging opcode (quiet k) .core ≡ k
-unfolding acknowledging pick
-acknowledged-core opcode k = refl
+-- one that has words is acknowledged, and they are awaited
+acknowledged-quiet : (opcode : ℕ) (k : Core) (m : List ℕ) → opening opcode (quiet k leaving m) ≡ said (oneWord (acknowledged opcode)) k leaving m
+unfolding acknowledging pick oneWord wordThen
+acknowledged-quiet opcode k m = refl
 
 module _ (k : Core) (m : List ℕ) (opcode : ℕ) {command : Command} where
-  -- one that has words
+  pub opcode-asks : (left : ℕ) → k .stage .phase ≡ Opcode → lookedUp opcode Sent ≡ Known command (suc left)
+      → wordStep k m opcode ≡ said (oneWord (acknowledged opcode)) (asking (begun k) command (suc left) noneKept) leaving m
+  opcode-asks left idle known =
+      opcode-step k m opcode idle known ∙ ap (opening opcode) (toward-more command (begun k) m noneKept 0 left)
+      ∙ acknowledged-quiet opcode (asking (begun k) command (suc left) (keeping noneKept 0)) m
+
   opcode-waits : (left : ℕ) → k .stage .phase ≡ Opcode → lookedUp opcode Sent ≡ Known command (suc left)
       → Waits command (begun k) m left noneKept (wordStep k m opcode)
   opcode-waits left idle known =
-      let step = opcode-step k m opcode idle known ∙ ap (opening opcode) (toward-more command (begun k) m noneKept 0 left) in
+      let step = opcode-asks left idle known in
       record {
-        core = ap (λ (o : Outcome). o .answer .core) step ∙ acknowledged-core opcode _;
+        core = ap (λ (o : Outcome). o .answer .core) step;
         memory = ap (λ (o : Outcome). o .memory) step;
       }
 

@@ -1,5 +1,5 @@
--- What a byte comes to, by the facts that its tests ask. Each law takes the tests of a definition one after the other.
-use Prim.Native.Nat.{ℕ, _+_, _≤_, _<_}
+-- What a unit comes to, on either line, by the facts that its tests ask. Each law takes the tests of a definition one after the other.
+use Prim.Native.Nat.{ℕ, _+_, _-_, _≤_, _<_}
 use mathlib.Core.Bool.{Bool, true, false, not, _&&_, _||_}
 use mathlib.Core.List.{List, []}
 use mathlib.Core.Path.{_≡_, refl, sym, ap, ap₂, _∙_}
@@ -22,11 +22,13 @@ use Rattle.script.specs.declared.Found.{Found}
 use Rattle.script.specs.declared.Found.the-variants.{Known, Retired, Unknown}
 use Rattle.script.specs.declared.Mode.the-variants.{Sent}
 use Rattle.script.specs.declared.Refusal.the-variants as refusal
-use Rattle.sent.specs.Line.{Outcome, pushed, plainly, gathered, carried, isStart, byteStep}
+use Rattle.sent.specs.Bus.{unitsInWord, startUnit, pushed}
+use Rattle.sent.specs.Line.{Outcome, plainly, gathered, carried, isStart, unitStep}
 use Rattle.sent.specs.Machine as machine
 use Rattle.sent.specs.Machine.{_leaving_, atOpcode, inPhase, wordStep}
 use Rattle.sent.specs.Purpose.{opcodePurpose, purposeOf, served}
 use Rattle.sent.specs.Replies.{silence, startAnswer}
+use Rattle.sent.specs.declared.Bus.{Bus}
 use Rattle.sent.specs.declared.Core.{Core}
 use Rattle.sent.specs.declared.Phase.{Phase}
 use Rattle.sent.specs.declared.Phase.the-variants as phase
@@ -68,62 +70,62 @@ module _ (k : Core) (m : List ℕ) (word : ℕ) {p : Purpose} (known : purposeOf
   pub served-memory : served p k m word .memory ≡ wordStep k m word .memory
   served-memory = ap (λ (o : machine.Outcome). o .memory) served-word
 
--- the start word: no other byte; before the first; inside a word; again where a word would begin
-module _ (s : Session) (b : ℕ) where
-  pub start-other : (b ≡ 0x58 → ⊥) → isStart s b ≡ false
+-- the start unit: no other; before the first; inside a word; again where a word would begin
+module _ (bus : Bus) (s : Session) (u : ℕ) where
+  pub start-other : (u ≡ startUnit bus → ⊥) → isStart bus s u ≡ false
   unfolding isStart
   start-other other = ap (λ (t : Bool). t && (not (s .line .started) || (eqb (s .line .have) 0 && not (s .core .begun)))) (ne-eqb _ _ other)
 
-  module _ (same : b ≡ 0x58) where
-    pub start-first : s .line .started ≡ false → isStart s b ≡ true
+  module _ (same : u ≡ startUnit bus) where
+    pub start-first : s .line .started ≡ false → isStart bus s u ≡ true
     unfolding isStart
     start-first before =
         ap₂ _&&_ (eq-eqb _ _ same) (ap (λ (t : Bool). not t || (eqb (s .line .have) 0 && not (s .core .begun))) before)
 
-    pub start-inside : s .line .started ≡ true → (s .line .have ≡ 0 → ⊥) → isStart s b ≡ false
+    pub start-inside : s .line .started ≡ true → (s .line .have ≡ 0 → ⊥) → isStart bus s u ≡ false
     unfolding isStart
     start-inside since have =
         ap₂ _&&_ (eq-eqb _ _ same) (ap₂ (λ (t e : Bool). not t || (e && not (s .core .begun))) since (ne-eqb _ _ have))
 
-    pub start-again : s .line .started ≡ true → s .line .have ≡ 0 → isStart s b ≡ not (s .core .begun)
+    pub start-again : s .line .started ≡ true → s .line .have ≡ 0 → isStart bus s u ≡ not (s .core .begun)
     unfolding isStart
     start-again since have =
         ap₂ _&&_ (eq-eqb _ _ same) (ap₂ (λ (t e : Bool). not t || (e && not (s .core .begun))) since (eq-eqb _ _ have))
 
--- a byte: each refusal in its case, then the line, then the whole word
-module _ (s : Session) (m : List ℕ) (b : ℕ) where
-  pub byte-ended : s .core .ended ≡ true → byteStep s m b ≡ plainly refusal.Ended silence s m
-  unfolding byteStep
-  byte-ended e = chosen _ _ _ e
+-- a unit: each refusal in its case, then the line, then the whole word
+module _ (bus : Bus) (s : Session) (m : List ℕ) (u : ℕ) where
+  pub unit-ended : s .core .ended ≡ true → unitStep bus s m u ≡ plainly refusal.Ended silence s m
+  unfolding unitStep
+  unit-ended e = chosen _ _ _ e
 
   module _ (running : s .core .ended ≡ false) where
-    pub byte-memory : (length m ≡ sumOf (s .core .windows) → ⊥) → byteStep s m b ≡ plainly refusal.Memory silence s m
-    unfolding byteStep
-    byte-memory e = passed _ _ _ running ∙ chosen _ _ _ (ap not (ne-eqb _ _ e))
+    pub unit-memory : (length m ≡ sumOf (s .core .windows) → ⊥) → unitStep bus s m u ≡ plainly refusal.Memory silence s m
+    unfolding unitStep
+    unit-memory e = passed _ _ _ running ∙ chosen _ _ _ (ap not (ne-eqb _ _ e))
 
     module _ (lent : length m ≡ sumOf (s .core .windows)) where
-      pub byte-start : isStart s b ≡ true
-          → byteStep s m b ≡ plainly refusal.None startAnswer (gathered s true (s .line .have) (s .line .word)) m
-      unfolding byteStep
-      byte-start e = passed _ _ _ running ∙ passed _ _ _ (ap not (eq-eqb _ _ lent)) ∙ chosen _ _ _ e
+      pub unit-start : isStart bus s u ≡ true
+          → unitStep bus s m u ≡ plainly refusal.None (startAnswer bus) (gathered s true (s .line .have) (s .line .word)) m
+      unfolding unitStep
+      unit-start e = passed _ _ _ running ∙ passed _ _ _ (ap not (eq-eqb _ _ lent)) ∙ chosen _ _ _ e
 
-      module _ (other : isStart s b ≡ false) where
-        pub byte-dropped : s .line .started ≡ false → byteStep s m b ≡ plainly refusal.None silence s m
-        unfolding byteStep
-        byte-dropped e =
+      module _ (other : isStart bus s u ≡ false) where
+        pub unit-dropped : s .line .started ≡ false → unitStep bus s m u ≡ plainly refusal.None silence s m
+        unfolding unitStep
+        unit-dropped e =
             passed _ _ _ running ∙ passed _ _ _ (ap not (eq-eqb _ _ lent)) ∙ passed _ _ _ other ∙ chosen _ _ _ (ap not e)
 
         module _ (since : s .line .started ≡ true) where
-          pub byte-gathered : s .line .have < 3
-              → byteStep s m b ≡ plainly refusal.None silence (gathered s true (s .line .have + 1) (pushed (s .line .word) b)) m
-          unfolding byteStep
-          byte-gathered h =
+          pub unit-gathered : s .line .have < unitsInWord bus - 1
+              → unitStep bus s m u ≡ plainly refusal.None silence (gathered s true (s .line .have + 1) (pushed bus (s .line .word) u)) m
+          unfolding unitStep
+          unit-gathered h =
               passed _ _ _ running ∙ passed _ _ _ (ap not (eq-eqb _ _ lent)) ∙ passed _ _ _ other ∙ passed _ _ _ (ap not since)
               ∙ chosen _ _ _ (lt-ltb _ _ h)
 
-          pub byte-whole : 3 ≤ s .line .have → byteStep s m b ≡ carried s (wordStep (s .core) m (pushed (s .line .word) b))
-          unfolding byteStep
-          byte-whole h =
+          pub unit-whole : unitsInWord bus - 1 ≤ s .line .have → unitStep bus s m u ≡ carried s (wordStep (s .core) m (pushed bus (s .line .word) u))
+          unfolding unitStep
+          unit-whole h =
               passed _ _ _ running ∙ passed _ _ _ (ap not (eq-eqb _ _ lent)) ∙ passed _ _ _ other ∙ passed _ _ _ (ap not since)
               ∙ passed _ _ _ (le-ltb _ _ h)
 

@@ -1,6 +1,5 @@
--- Four bytes of the line are a word, and a load sent in pieces does what the whole load does in flash mode. The second goes word by word:
--- a data word writes and feeds the next bytes of the load, and what the later words write and feed goes on from there.
-use Prim.Native.Nat.{ℕ, zero, suc, _+_, _-_, _*_, _/_, _%_, _^_, _<_, min}
+-- A load sent in pieces does what the whole load does in flash mode, word by word: a data word writes and feeds the next bytes of the load, and what the later words write and feed goes on from there.
+use Prim.Native.Nat.{ℕ, zero, suc, _+_, _-_, _*_, _/_, _%_, _<_, min}
 use mathlib.Core.Bool.{Bool, true, false}
 use mathlib.Core.List.{List, [], _∷_, _++_}
 use mathlib.Core.Path.{_≡_, refl, sym, ap, ap₂, _∙_}
@@ -9,7 +8,7 @@ use native.Mathlib.Omega.{arith}
 use borrow.Author.Tests.{eq-eqb, ne-eqb}
 use lib.ListN.{length, getD, take, drop, length-take, take-append-drop}
 use lib.Seq.{length-take-le, take-nil, getD-take}
-use Rattle.words.specs.Bits.{bit, join}
+use Rattle.words.specs.Bits.{bit}
 use Rattle.words.specs.Bytes.{byte, number, put}
 use Rattle.words.specs.Choice.{pick}
 use Rattle.words.proofs.Choice.{chosen, passed}
@@ -20,24 +19,18 @@ use Rattle.commands.specs.Commands.{loadJudged, loaded, wordsFed, loadFed}
 use Rattle.commands.proofs.Loading.{loaded-append}
 use Rattle.commands.specs.declared.Judged.{Judged}
 use Rattle.commands.specs.declared.Judged.the-variants.{Granted}
-use Rattle.sent.specs.Line.{pushed}
+use Rattle.sent.specs.Bus.{allUnits}
 use Rattle.sent.specs.Machine.{Outcome, await, quiet, _leaving_, awaited, loadBegun, dataBytes, performed, inPhase, wordStep}
 use Rattle.sent.specs.Words.{afterWords}
+use Rattle.sent.specs.declared.Bus.the-variants.{Bytes}
 use Rattle.sent.specs.declared.Core.{Core}
 use Rattle.sent.specs.declared.Kept.{Kept}
 use Rattle.sent.specs.declared.Phase.{Phase}
 use Rattle.sent.specs.declared.Phase.the-variants as phase
 
--- four bytes are the little-endian word, whatever stood before
-pub four-pushes : (w a b c d : ℕ) → w < 2 ^ 32 → a < 256 → b < 256 → c < 256 → d < 256
-    → pushed (pushed (pushed (pushed w a) b) c) d ≡ number (a ∷ b ∷ c ∷ d ∷ [])
-unfolding pushed number join
-four-pushes w a b c d w< a< b< c< d< = omega arith
-
 -- the bytes of words, lowest first
 abbrev pub bytesOf : List ℕ → List ℕ
-bytesOf [] = []
-bytesOf (w ∷ ws) = byte w 0 ∷ byte w 1 ∷ byte w 2 ∷ byte w 3 ∷ bytesOf ws
+bytesOf words = allUnits Bytes words
 
 -- the first four of n bytes of words are those of the first word that belong to the load, and the others those of the other words
 first-bytes : (n w : ℕ) (ws : List ℕ) → take 4 (take n (bytesOf (w ∷ ws))) ≡ dataBytes w n
@@ -91,7 +84,7 @@ data-fed r n w =
     ∙ ap (bit w) (sym parts)))
 
 -- a data word where some are left
-data-step : (k : Core) (m : List ℕ) (p n w : ℕ) → 0 < n → k .stage .phase ≡ awaited (p + n) n
+pub data-step : (k : Core) (m : List ℕ) (p n w : ℕ) → 0 < n → k .stage .phase ≡ awaited (p + n) n
     → wordStep k m w
     ≡ quiet (await k (pick (k .on) (fed (k .tally .register) w (8 * min n 4)) (k .tally .register)) (awaited (p + n) (n - 4)))
     leaving loaded m p (dataBytes w n)
@@ -147,6 +140,10 @@ bytes-length : (ws : List ℕ) → length (bytesOf ws) ≡ 4 * length ws
 bytes-length [] = refl
 bytes-length (w ∷ ws) = omega (arith, bytes-length ws)
 
+-- so a load that has all its words has all its bytes
+pub data-count : (size : ℕ) (ws : List ℕ) → length ws ≡ (size + 3) / 4 → length (take size (bytesOf ws)) ≡ size
+data-count size ws whole = length-take-le size (bytesOf ws) (omega (arith, bytes-length ws))
+
 -- address and size fed first, then the data: what the whole load feeds
 load-fed : (on : Bool) (r address n : ℕ) (bytes : List ℕ) → length bytes ≡ n
     → pick on (wordsFed (pick on (fedWords r (address ∷ n ∷ [])) r) ((n + 3) / 4) bytes) (pick on (fedWords r (address ∷ n ∷ [])) r)
@@ -165,7 +162,6 @@ load-in-pieces k m kept size place ws granted whole =
     let address : ℕ = kept .third in
     let r : ℕ = k .tally .register in
     let next = await k (pick (k .on) (fedWords r (address ∷ size ∷ [])) r) (awaited (place + size) size) in
-    let count : length (take size (bytesOf ws)) ≡ size = length-take-le size (bytesOf ws) (omega (arith, bytes-length ws)) in
     ap (λ (j : Judged). afterWords (loadBegun k address size j leaving m) ws) granted
     ∙ pieces ws next m place size refl whole
-    ∙ ap (λ (x : ℕ). quiet (await k x phase.Opcode) leaving loaded m place (take size (bytesOf ws))) (load-fed (k .on) r address size _ count)
+    ∙ ap (λ (x : ℕ). quiet (await k x phase.Opcode) leaving loaded m place (take size (bytesOf ws))) (load-fed (k .on) r address size _ (data-count size ws whole))

@@ -1,3 +1,6 @@
+pub mod Bus
+pub mod Feeding
+pub mod Lift
 pub mod Line
 pub mod Machine
 pub mod Opening

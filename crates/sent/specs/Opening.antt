@@ -1,4 +1,4 @@
--- The opening of a sent session: BOOTME once, checksum off, register 0, awaiting the start word.
+-- The opening of a sent session: BOOTME once on the line of bytes, checksum off, register 0, awaiting the start unit.
 use Prim.Native.Nat.{ℕ}
 use mathlib.Core.Bool.{Bool, true, false, not}
 use mathlib.Core.List.{List, [], _∷_}
@@ -8,14 +8,17 @@ use Rattle.windows.specs.Map.{goodMap, keptOf, zeroWindow}
 use Rattle.windows.specs.declared.Window.{Window}
 use Rattle.script.specs.declared.Refusal.the-variants.{None, Map}
 use Rattle.sent.specs.Replies.{silence}
+use Rattle.sent.specs.declared.Bus.{Bus}
+use Rattle.sent.specs.declared.Bus.the-variants.{Bytes, Halves}
 use Rattle.sent.specs.declared.Opened.{Opened}
 use Rattle.sent.specs.declared.Phase.the-variants as phase
 use Rattle.sent.specs.declared.Reply.{Reply}
 use Rattle.sent.specs.declared.Session.{Session}
 
--- the greeting, BOOTME
-abbrev pub greeting : Reply
-greeting = record { bytes = 0x42 ∷ 0x4F ∷ 0x4F ∷ 0x54 ∷ 0x4D ∷ 0x45 ∷ 0 ∷ 0 ∷ []; count = 6 }
+-- the greeting, BOOTME; none on the line of halves
+abbrev pub greeting : Bus → Reply
+greeting Bytes = record { bytes = 0x42 ∷ 0x4F ∷ 0x4F ∷ 0x54 ∷ 0x4D ∷ 0x45 ∷ 0 ∷ 0 ∷ []; count = 6 }
+greeting Halves = silence
 
 -- a session at the very start, or one that never opened
 abbrev pub atStart : List Window → Bool → Session
@@ -33,7 +36,7 @@ atStart windows ended =
     }
 
 -- 1: a refused opening says nothing and gives an ended session, all else of it zero or off
-unfoldable pub openedBy : ℕ → List Window → Opened
-openedBy count windows =
+unfoldable pub openedBy : Bus → ℕ → List Window → Opened
+openedBy bus count windows =
     pick (not (goodMap count windows)) (record { refusal = Map; reply = silence; session = atStart (replicate 8 zeroWindow) true })
-    (record { refusal = None; reply = greeting; session = atStart (keptOf count windows) false })
+    (record { refusal = None; reply = greeting bus; session = atStart (keptOf count windows) false })

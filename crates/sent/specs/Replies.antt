@@ -1,17 +1,20 @@
--- Replies: none, the answer to a start word, a word, or a word and another after it.
-use Prim.Native.Nat.{ℕ, _+_, _*_, _%_, _^_, min}
+-- Replies, as bytes on either line: none, the answer to a start unit, a word, or a word and another after it.
+use Prim.Native.Nat.{ℕ, _+_, _*_, _/_, _%_, _^_, min}
 use mathlib.Core.List.{List, [], _∷_}
 use lib.ListN.{getD, take}
 use Rattle.words.specs.Bytes.{byte}
+use Rattle.sent.specs.Bus.{unitBits, answerUnit}
+use Rattle.sent.specs.declared.Bus.{Bus}
 use Rattle.sent.specs.declared.Reply.{Reply}
 
 -- no reply
 abbrev pub silence : Reply
 silence = record { bytes = 0 ∷ 0 ∷ 0 ∷ 0 ∷ 0 ∷ 0 ∷ 0 ∷ 0 ∷ []; count = 0 }
 
--- the answer to the start word
-abbrev pub startAnswer : Reply
-startAnswer = record { bytes = 0x52 ∷ 0 ∷ 0 ∷ 0 ∷ 0 ∷ 0 ∷ 0 ∷ 0 ∷ []; count = 1 }
+-- the answer to the start unit: one unit, lowest byte first
+unfoldable pub startAnswer : Bus → Reply
+startAnswer bus =
+    record { bytes = byte (answerUnit bus) 0 ∷ byte (answerUnit bus) 1 ∷ 0 ∷ 0 ∷ 0 ∷ 0 ∷ 0 ∷ 0 ∷ []; count = unitBits bus / 8 }
 
 -- one word, lowest byte first
 unfoldable pub oneWord : ℕ → Reply

@@ -1,17 +1,18 @@
-// Sent mode: a host feeds single bytes over a line; four make a word, and the word machine takes whole words.
+// Sent mode: a host feeds units over a line, bytes or halves of a word; so many make a word, and the word machine takes whole words.
 ghost use mathlib.Core.Path.{_≡_};
 ghost use mathlib.Core.List.{[], _∷_};
 ghost use mathlib.Core.Bool.{true};
-ghost use Prim.Native.Nat.{_+_, _-_, _*_, _≤_, min};
+ghost use Prim.Native.Nat.{_+_, _-_, _*_, _^_, _≤_, _<_, min};
 ghost use lib.Dec.{eqb};
-ghost use lib.ListN.{replicate};
+ghost use lib.ListN.{getD, replicate};
 ghost use Rattle.words.specs.Choice.{pick};
 ghost use Rattle.checksum.specs.Checksum.{fed, fedWords};
 ghost use Rattle.windows.specs.Map.{zeroWindow};
 ghost use Rattle.windows.specs.Window.{sumOf};
 ghost use Rattle.script.specs.Answers.{numberOf};
 ghost use Rattle.commands.specs.Commands.{loadJudged, loaded, closeDone};
-ghost use Rattle.sent.specs.Line.{pushed, plainly, gathered, carried, isStart, byteStep};
+ghost use Rattle.sent.specs.Bus.{unitBits, unitsInWord, startUnit, halvesOf, unitsFed, pushed};
+ghost use Rattle.sent.specs.Line.{plainly, gathered, carried, isStart, unitStep};
 ghost use Rattle.sent.specs.Machine.{
   changed,
   await,
@@ -46,6 +47,12 @@ use script::Found;
 use script::Mode;
 use script::Refusal;
 use windows::Window;
+
+// A line by its unit of transfer: bytes, or halves of a word.
+pub enum Bus {
+    Bytes,
+    Halves,
+}
 
 // What Start-Over takes back.
 pub struct Tally {
@@ -91,7 +98,7 @@ pub struct Core {
     pub stage: Stage,
 }
 
-// What the line has gathered: whether the start word was answered, and the bytes of an unfinished word.
+// What the line has gathered: whether the start unit was answered, and the units of an unfinished word.
 pub struct Line {
     pub started: bool,
     pub have: u8,
@@ -118,7 +125,7 @@ pub struct Taken {
     pub core: Core,
 }
 
-// The answer to a byte.
+// The answer to a unit.
 pub struct Answer {
     pub refusal: Refusal,
     pub reply: Reply,
@@ -134,57 +141,135 @@ pub struct Opened {
 }
 
 impl Session {
-    // BOOTME, sent once when a session is opened.
+    // BOOTME, sent once when a session is opened on the line of bytes.
     pub const GREETING: [u8; 6] = [0x42, 0x4F, 0x4F, 0x54, 0x4D, 0x45];
 
     // The most bytes of a reply.
     pub const MOST_REPLY: usize = 8;
 
-    // The start word.
+    // The start byte and the start half.
     pub const START: u8 = 0x58;
+
+    pub const START_HALF: u16 = 0x5853;
 
     // A session from a map, and its greeting; refused it is ended and says nothing.
     pub fn open(count: usize, windows: [Window; 8]) -> Opened
-        ensures { λ r. ⌜ r ≡ openedBy count windows ⌝ }
+        ensures { λ r. ⌜ r ≡ openedBy Bus.Bytes count windows ⌝ }
     {
-        if !windows::is_good(count, windows) {
-            return shut();
-        }
-        Opened {
-            refusal: Refusal::None,
-            reply: greet(),
-            session: begin(windows::kept(count, windows), false),
-        }
+        open_on(Bus::Bytes, count, windows)
+    }
+
+    // The same on the line of halves, which has no greeting.
+    pub fn open_halves(count: usize, windows: [Window; 8]) -> Opened
+        ensures { λ r. ⌜ r ≡ openedBy Bus.Halves count windows ⌝ }
+    {
+        open_on(Bus::Halves, count, windows)
     }
 
     // One byte from the host.
     pub fn step(self, memory: &mut [u8], byte: u8) -> Answer
-        ensures { λ r. ⌜ r ≡ byteStep self (now (memory .entry)) byte .answer ⌝ }
-        ensures { λ _. ⌜ now (memory .exit) ≡ byteStep self (now (memory .entry)) byte .memory ⌝ }
+        ensures { λ r. ⌜ r ≡ unitStep Bus.Bytes self (now (memory .entry)) byte .answer ⌝ }
+        ensures { λ _. ⌜ now (memory .exit) ≡ unitStep Bus.Bytes self (now (memory .entry)) byte .memory ⌝ }
     {
-        let core = self.core;
-        if core.ended {
-            return tell(Refusal::Ended, silent(), self);
-        }
-        let windows = core.windows;
-        if memory.len() != windows::sum(windows) {
-            return tell(Refusal::Memory, silent(), self);
-        }
-        let line = self.line;
-        if is_start(self, byte) {
-            let session = gather(self, true, line.have, line.word);
-            return tell(Refusal::None, start_reply(), session);
-        }
-        if !line.started {
-            return tell(Refusal::None, silent(), self);
-        }
-        let word = push(line.word, byte);
-        if line.have < 3 {
-            let session = gather(self, true, line.have + 1, word);
-            return tell(Refusal::None, silent(), session);
-        }
-        carry(self, take_word(core, memory, word))
+        take_unit(self, memory, Bus::Bytes, byte as u32)
     }
+
+    // One half from the host.
+    pub fn step_half(self, memory: &mut [u8], half: u16) -> Answer
+        ensures { λ r. ⌜ r ≡ unitStep Bus.Halves self (now (memory .entry)) half .answer ⌝ }
+        ensures { λ _. ⌜ now (memory .exit) ≡ unitStep Bus.Halves self (now (memory .entry)) half .memory ⌝ }
+    {
+        take_unit(self, memory, Bus::Halves, half as u32)
+    }
+
+    // One unit of lent bytes, by its place among them, of a line that is itself given.
+    pub fn step_at(self, memory: &mut [u8], bus: Bus, fed: &[u8], i: usize) -> Answer
+        ensures { λ r. ⌜ r ≡ unitStep bus self (now (memory .entry)) (getD (unitsFed bus (now (fed .entry))) i 0) .answer ⌝ }
+        ensures { λ _. ⌜ now (memory .exit) ≡ unitStep bus self (now (memory .entry)) (getD (unitsFed bus (now (fed .entry))) i 0) .memory ⌝ }
+    {
+        take_unit(self, memory, bus, unit_at(bus, fed, i))
+    }
+}
+
+// A byte by its place; 0 past the last.
+fn byte_at(fed: &[u8], i: usize) -> u8
+    ensures { λ r. ⌜ r ≡ getD (now (fed .entry)) i 0 ⌝ }
+{
+    if i < fed.len() { fed[i] } else { 0 }
+}
+
+// A half of two bytes, the low one first.
+fn half_of(low: u8, high: u8) -> u16
+    ensures { λ r. ⌜ r ≡ low + high * 2 ^ 8 ⌝ }
+{
+    (low as u16) + ((high as u16) << 8)
+}
+
+// A half by its place; 0 past the last.
+fn half_at(fed: &[u8], i: usize) -> u16
+    ensures { λ r. ⌜ r ≡ getD (halvesOf (now (fed .entry))) i 0 ⌝ }
+{
+    if i < fed.len() / 2 {
+        let low = fed[2 * i];
+        let high = fed[2 * i + 1];
+        return half_of(low, high);
+    }
+    0
+}
+
+// A unit by its place; 0 past the last.
+fn unit_at(bus: Bus, fed: &[u8], i: usize) -> u32
+    ensures { λ r. ⌜ r ≡ getD (unitsFed bus (now (fed .entry))) i 0 ⌝ }
+    ensures { λ r. ⌜ r < 2 ^ unitBits bus ⌝ }
+{
+    match bus {
+        Bus::Bytes => byte_at(fed, i) as u32,
+        Bus::Halves => half_at(fed, i) as u32,
+    }
+}
+
+// A session on a line, from a map.
+fn open_on(bus: Bus, count: usize, windows: [Window; 8]) -> Opened
+    ensures { λ r. ⌜ r ≡ openedBy bus count windows ⌝ }
+{
+    if !windows::is_good(count, windows) {
+        return shut();
+    }
+    Opened {
+        refusal: Refusal::None,
+        reply: greet(bus),
+        session: begin(windows::kept(count, windows), false),
+    }
+}
+
+// One unit of a line.
+fn take_unit(session: Session, memory: &mut [u8], bus: Bus, unit: u32) -> Answer
+    requires { ⌜ unit < 2 ^ unitBits bus ⌝ }
+    ensures { λ r. ⌜ r ≡ unitStep bus session (now (memory .entry)) unit .answer ⌝ }
+    ensures { λ _. ⌜ now (memory .exit) ≡ unitStep bus session (now (memory .entry)) unit .memory ⌝ }
+{
+    let core = session.core;
+    if core.ended {
+        return tell(Refusal::Ended, silent(), session);
+    }
+    let windows = core.windows;
+    if memory.len() != windows::sum(windows) {
+        return tell(Refusal::Memory, silent(), session);
+    }
+    let line = session.line;
+    if is_start(bus, session, unit) {
+        let started = gather(session, true, line.have, line.word);
+        return tell(Refusal::None, start_reply(bus), started);
+    }
+    if !line.started {
+        return tell(Refusal::None, silent(), session);
+    }
+    let word = push(bus, line.word, unit);
+    if line.have < last_unit(bus) {
+        let gathered = gather(session, true, line.have + 1, word);
+        return tell(Refusal::None, silent(), gathered);
+    }
+    carry(session, take_word(core, memory, word))
 }
 
 // A session at the very start, or one that never opened.
@@ -228,9 +313,19 @@ fn shut() -> Opened
     }
 }
 
+// BOOTME, or nothing on the line of halves.
+fn greet(bus: Bus) -> Reply
+    ensures { λ r. ⌜ r ≡ greeting bus ⌝ }
+{
+    match bus {
+        Bus::Bytes => bootme(),
+        Bus::Halves => silent(),
+    }
+}
+
 // BOOTME.
-fn greet() -> Reply
-    ensures { λ r. ⌜ r ≡ greeting ⌝ }
+fn bootme() -> Reply
+    ensures { λ r. ⌜ r ≡ greeting Bus.Bytes ⌝ }
 {
     let letters = Session::GREETING;
     Reply {
@@ -258,13 +353,19 @@ fn silent() -> Reply
     }
 }
 
-// The answer to the start word.
-fn start_reply() -> Reply
-    ensures { λ r. ⌜ r ≡ startAnswer ⌝ }
+// The answer to the start unit.
+fn start_reply(bus: Bus) -> Reply
+    ensures { λ r. ⌜ r ≡ startAnswer bus ⌝ }
 {
-    Reply {
-        bytes: [0x52, 0, 0, 0, 0, 0, 0, 0],
-        count: 1,
+    match bus {
+        Bus::Bytes => Reply {
+            bytes: [0x52, 0, 0, 0, 0, 0, 0, 0],
+            count: 1,
+        },
+        Bus::Halves => Reply {
+            bytes: [0x53, 0x52, 0, 0, 0, 0, 0, 0],
+            count: 2,
+        },
     }
 }
 
@@ -340,11 +441,21 @@ fn gather(session: Session, started: bool, have: u8, word: u32) -> Session
     next
 }
 
-// Is a byte the start word?
-fn is_start(session: Session, byte: u8) -> bool
-    ensures { λ r. ⌜ r ≡ isStart session byte ⌝ }
+// The start unit of a line.
+fn start_unit(bus: Bus) -> u32
+    ensures { λ r. ⌜ r ≡ startUnit bus ⌝ }
 {
-    if byte != Session::START {
+    match bus {
+        Bus::Bytes => Session::START as u32,
+        Bus::Halves => Session::START_HALF as u32,
+    }
+}
+
+// Is a unit the start unit?
+fn is_start(bus: Bus, session: Session, unit: u32) -> bool
+    ensures { λ r. ⌜ r ≡ isStart bus session unit ⌝ }
+{
+    if unit != start_unit(bus) {
         return false;
     }
     let line = session.line;
@@ -358,14 +469,28 @@ fn is_start(session: Session, byte: u8) -> bool
     !core.begun
 }
 
-// A byte comes into a word from above.
-fn push(word: u32, byte: u8) -> u32
-    ensures { λ r. ⌜ r ≡ pushed word byte ⌝ }
+// How many units of a word come before its last.
+fn last_unit(bus: Bus) -> u8
+    ensures { λ r. ⌜ r ≡ unitsInWord bus - 1 ⌝ }
 {
-    (word >> 8) + ((byte as u32) << 24)
+    match bus {
+        Bus::Bytes => 3,
+        Bus::Halves => 1,
+    }
 }
 
-// The line after a whole word: refused, its bytes stay gathered; accepted, the next word begins.
+// A unit comes into a word from above.
+fn push(bus: Bus, word: u32, unit: u32) -> u32
+    requires { ⌜ unit < 2 ^ unitBits bus ⌝ }
+    ensures { λ r. ⌜ r ≡ pushed bus word unit ⌝ }
+{
+    match bus {
+        Bus::Bytes => (word >> 8) + (unit << 24),
+        Bus::Halves => (word >> 16) + (unit << 16),
+    }
+}
+
+// The line after a whole word: refused, its units stay gathered; accepted, the next word begins.
 fn line_after(line: Line, refusal: Refusal) -> Line
     ensures { λ r. ⌜ r ≡ pick (eqb (numberOf refusal) 0) (record { started = line .started; have = 0; word = 0 }) line ⌝ }
 {

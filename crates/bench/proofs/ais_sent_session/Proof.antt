@@ -1,5 +1,6 @@
 -- `bench::ais_sent_session` meets its contract: the session from the opening, which has gathered nothing yet.
 use borrow.Author.Needs.{needs}
+use Rattle.sent.specs.declared.Bus.the-variants.{Bytes}
 use Rattle.bench.proofs.Fitting.{opened-idle}
 use Rattle.bench.proofs.ais_sent_session.Statement.{statement}
 use Rattle.bench.proofs.ais_sent_session.Tie as tie
@@ -14,7 +15,7 @@ open-requires : tie.Need-open-requires
 open-requires c κs = search needs
 
 session-from-requires : tie.Need-session-from-requires
-session-from-requires c κs = rw (c .before .before .«open» .ensures) (opened-idle _ _)
+session-from-requires c κs = rw (c .before .before .«open» .ensures) (opened-idle Bytes _ _)
 
 same-length : tie.Need-same-length
 same-length c = search needs

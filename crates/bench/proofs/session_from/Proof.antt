@@ -16,7 +16,7 @@ refuse-requires c κs = search needs
 returns : tie.Need-returns
 returns c =
     let a = c .before .before .before .before .before .before .args in
-    rw (from-refused (a .opened) (a .memory .now) (a .fed .now) (length (a .room .now)) (λ e. c .before .if1 .taken (c .before .before .number .ensures ∙ e)))
+    rw (from-refused (a .bus) (a .opened) (a .memory .now) (a .fed .now) (length (a .room .now)) (λ e. c .before .if1 .taken (c .before .before .number .ensures ∙ e)))
     (untouched _ _ _ _ (c .refuse .ensures))
 
 sum-requires : tie.Need-sum-requires
@@ -29,7 +29,7 @@ returns-2 : tie.Need-returns-2
 returns-2 c =
     let a = c .before .before .before .before .before .before .before .before .before .before .before .args in
     let opened = sym (c .before .before .before .before .before .before .before .number .ensures) ∙ c .before .before .before .before .before .before .if1 .left in
-    rw (from-memory (a .opened) (a .memory .now) (a .fed .now) (length (a .room .now)) opened (λ e. c .before .if2 .taken (e ∙ sym (c .before .before .sum .ensures))))
+    rw (from-memory (a .bus) (a .opened) (a .memory .now) (a .fed .now) (length (a .room .now)) opened (λ e. c .before .if2 .taken (e ∙ sym (c .before .before .sum .ensures))))
     (untouched _ _ _ _ (c .refuse2 .ensures))
 
 is-roomy-requires : tie.Need-is-roomy-requires
@@ -44,13 +44,13 @@ returns-3 c =
     let opened = sym (c .before .before .before .before .before .before .before .before .before .number .ensures) ∙ c .before .before .before .before .before .before .before .before .if1 .left in
     let lent = c .before .before .before .if2 .left ∙ c .before .before .before .before .sum .ensures in
     let narrow = sym (c .before .before .is-roomy .ensures) ∙ not-true _ (c .before .if3 .taken) in
-    rw (from-narrow (a .opened) (a .memory .now) (a .fed .now) (length (a .room .now)) opened lent narrow)
+    rw (from-narrow (a .bus) (a .opened) (a .memory .now) (a .fed .now) (length (a .room .now)) opened lent narrow)
     (untouched _ _ _ _ (c .refuse3 .ensures))
 
 feed-all-requires : tie.Need-feed-all-requires
 feed-all-requires c κs =
-    let pre = c .before .before .before .before .before .before .before .before .before .before .before .before .before .before .pre in
-    (pre .0, (pre .1, has-room _ _ (sym (c .before .before .before .is-roomy .ensures) ∙ not-false _ (c .before .before .if3 .left))))
+    let entry = c .before .before .before .before .before .before .before .before .before .before .before .before .before .before in
+    (entry .pre .0, (entry .pre .1, has-room (entry .args .bus) (entry .args .fed .now) _ (sym (c .before .before .before .is-roomy .ensures) ∙ not-false _ (c .before .before .if3 .left))))
 
 same-length : tie.Need-same-length
 same-length c = search needs
@@ -64,7 +64,7 @@ returns-4 c =
     let opened = sym (c .before .before .before .before .before .before .before .before .before .before .before .before .before .before .before .number .ensures) ∙ c .before .before .before .before .before .before .before .before .before .before .before .before .before .before .if1 .left in
     let lent = c .before .before .before .before .before .before .before .before .before .if2 .left ∙ c .before .before .before .before .before .before .before .before .before .before .sum .ensures in
     let wide = sym (c .before .before .before .before .before .before .before .before .is-roomy .ensures) ∙ not-false _ (c .before .before .before .before .before .before .before .if3 .left) in
-    rw (from-fed (a .opened) (a .memory .now) (a .fed .now) (length (a .room .now)) opened lent wide) (c .before .before .before .before .feed-all .ensures)
+    rw (from-fed (a .bus) (a .opened) (a .memory .now) (a .fed .now) (length (a .room .now)) opened lent wide) (c .before .before .before .before .feed-all .ensures)
 
 pub session-from-spec : {M : Type 1} → statement M
 session-from-spec =

@@ -40,7 +40,8 @@ use denote.Triple.Clauses.{ensured, lasts}
 use denote.Triple.Table.{entered, cited}
 use denote.Triple.Walked.{says, Stays, stay-ref, stay-none, gave-slice, walkOf, AllGo, goes-ref, goes-none, goes-gave-slice, Walks, ends-at, walked, walk-meets}
 use denote.Exit.{yes}
-use Rattle.sent.specs.Line.{byteStep}
+use Rattle.sent.specs.Line.{unitStep}
+use Rattle.sent.specs.declared.Bus.the-variants.{Bytes}
 use Rattle.sent.specs.declared.Session.{Session}
 use Rattle.sent.proofs.Session as session-type
 use Rattle.sent.proofs.Session.Laws as session-laws
@@ -89,7 +90,7 @@ Advance 𝓤 H A at-mem run = tripleOf 𝓤 H A advance.signature (advance.spec 
 module _ {M : Type 1} (𝓤 : URA M) (H : Heap 𝓤) (A : Atoms 𝓤) (W : Given 𝓤 H A) (at-mem : Memory → SProp 𝓤) (run : Routine → Fun 𝓤) (κ₁ κ₂ : Lft) (q₁ q₂ : Share) (b₁ o₁ : ℕ) (γ₁ : GName) (h : Session) (b₂ o₂ : ℕ) (γ₂ : GName) (ys : List ℕ) (n : ℕ) (fits : n < 2 ^ 8) where
   -- what both contracts say of a last session, an answer and a last memory
   abbrev Claim : Session → Told → List ℕ → Type 0
-  Claim = isGiven (byteStep h ys n)
+  Claim = isGiven (unitStep Bytes h ys n)
 
   abbrev x : RefT (List ℕ)
   x = record { ptr = (b₂, o₂); name = γ₂; now = ys }

@@ -1,5 +1,4 @@
 -- `sent::begun_by` meets its contract: each arm is one side of the choice.
-use borrow.Author.Needs.{needs}
 use mathlib.Core.Path.{sym}
 use Rattle.words.proofs.Choice.{chosen, passed}
 use Rattle.sent.proofs.begun_by.Statement.{statement}

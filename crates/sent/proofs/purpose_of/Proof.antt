@@ -1,11 +1,8 @@
 -- `sent::purpose_of` meets its contract: each arm is one case of the phase.
 use borrow.Author.Needs.{needs}
-use Prim.Native.Nat.{ℕ}
-use mathlib.Core.Bool.{false}
-use mathlib.Core.Path.{_≡_, sym, ap, _∙_}
+use mathlib.Core.Path.{sym, ap, _∙_}
 use Rattle.sent.specs.Purpose.{purposeOf}
 use Rattle.sent.specs.declared.Phase.{Phase}
-use Rattle.sent.specs.declared.Purpose.the-variants.{Command}
 use Rattle.sent.proofs.purpose_of.Statement.{statement}
 use Rattle.sent.proofs.purpose_of.Tie as tie
 

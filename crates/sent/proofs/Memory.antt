@@ -1,36 +1,25 @@
 -- Commands on memory: it keeps its length and stays bytes, since a command does nothing but put bytes into it.
 use Prim.Native.Nat.{ℕ, zero, suc, _+_, _<_}
-use mathlib.Core.Bool.{Bool, true, _&&_}
 use mathlib.Core.List.{List, [], _∷_}
 use mathlib.Core.Path.{_≡_, refl}
 use native.Mathlib.Omega.{arith}
-use lib.Dec.{ltb, lit<}
-use lib.ListN.{length, getD, set, take}
-use borrow.Author.Tests.{ltb-true}
+use lib.Dec.{lit<}
+use lib.ListN.{length, set, take}
 use Rattle.words.specs.Bytes.{byte, put, sizeOf, fieldWritten}
-use Rattle.words.proofs.Choice.{both, of-choice}
+use Rattle.words.proofs.Choice.{of-choice}
 use Rattle.words.proofs.Puts.{length-put}
 use Rattle.windows.specs.declared.Window.{Window}
-use Rattle.commands.specs.Commands.{memoryIf, loadJudged, loaded, unitOf, fillJudged, filled, typeFilled, fillMemory, shapeOf, settingJudged, shapeSet, settingMemory}
+use Rattle.commands.specs.Commands.{memoryIf, loaded, unitOf, fillJudged, filled, typeFilled, fillMemory, shapeOf, settingJudged, shapeSet, settingMemory}
 use Rattle.commands.specs.declared.Judged.{Judged}
 use Rattle.commands.specs.declared.Judged.the-variants.{Granted, Refused}
 use Rattle.commands.specs.declared.Shape.{Shape}
 use Rattle.commands.specs.declared.Shape.the-variants.{Bits, Wrong}
 use Rattle.commands.specs.declared.UnitType.{UnitType}
 use Rattle.commands.specs.declared.UnitType.the-variants.{Of, Other}
+use Rattle.sent.specs.Bus.{allUnits}
+use Rattle.sent.specs.Feeding.{AreBytes}
 use Rattle.sent.specs.Machine.{dataBytes}
-use Rattle.retries.specs.Pieces.{four, AreBytes}
-
--- bytes by a test
-unfoldable pub allSmall : List ℕ → Bool
-allSmall [] = true
-allSmall (b ∷ bs) = ltb b 256 && allSmall bs
-
-pub bytes-by : (bs : List ℕ) → allSmall bs ≡ true → AreBytes bs
-unfolding allSmall
-bytes-by [] e i = lit< tt
-bytes-by (b ∷ bs) e zero = ltb-true b 256 (both _ _ e .0)
-bytes-by (b ∷ bs) e (suc i) = bytes-by bs (both (ltb b 256) _ e .1) i
+use Rattle.sent.specs.declared.Bus.the-variants.{Bytes}
 
 -- bytes stay bytes
 set-bytes : (m : List ℕ) (at v : ℕ) → v < 256 → AreBytes m → AreBytes (set m at v)
@@ -60,7 +49,7 @@ untouched = record { same-length = refl; bytes = λ are. are }
 put-over : (m : List ℕ) (at n : ℕ) (f : ℕ → ℕ) → ((i : ℕ) → f i < 256) → Overwritten m (put m at n f)
 put-over m at n f small = record { same-length = length-put m at n f; bytes = put-bytes m at n f small }
 
-loaded-over : (m : List ℕ) (place : ℕ) (bs : List ℕ) → AreBytes bs → Overwritten m (loaded m place bs)
+pub loaded-over : (m : List ℕ) (place : ℕ) (bs : List ℕ) → AreBytes bs → Overwritten m (loaded m place bs)
 unfolding loaded
 loaded-over m place bs small = put-over m place (length bs) _ small
 
@@ -76,13 +65,9 @@ set-shape-over m place (Bits unit start width field) value =
     of-choice (Overwritten m) _ (λ e. put-over m place (sizeOf unit) _ (λ i. byte-small _ i)) (λ e. untouched)
 
 -- so of a command, granted or refused
-if-over : (m : List ℕ) (judged : Judged) (writing : ℕ → List ℕ) → ((place : ℕ) → Overwritten m (writing place)) → Overwritten m (memoryIf judged writing m)
+pub if-over : (m : List ℕ) (judged : Judged) (writing : ℕ → List ℕ) → ((place : ℕ) → Overwritten m (writing place)) → Overwritten m (memoryIf judged writing m)
 if-over m (Granted place) writing over = over place
 if-over m (Refused q) writing over = untouched
-
-pub load-over : (windows : List Window) (m : List ℕ) (address : ℕ) (bs : List ℕ) → AreBytes bs
-    → Overwritten m (memoryIf (loadJudged windows address (length bs)) (λ place. loaded m place bs) m)
-load-over windows m address bs small = if-over m (loadJudged windows address (length bs)) _ (λ place. loaded-over m place bs small)
 
 pub fill-over : (windows : List Window) (m : List ℕ) (address size kind pattern : ℕ) → Overwritten m (fillMemory windows m address size kind pattern)
 unfolding fillMemory
@@ -94,19 +79,20 @@ unfolding settingMemory
 setting-over windows m word address value =
     if-over m (settingJudged windows word address value) _ (λ place. set-shape-over m place (shapeOf word) value)
 
--- the bytes of a data word
-take-bytes : (n : ℕ) (bs : List ℕ) → AreBytes bs → AreBytes (take n bs)
+-- some of some bytes, and the bytes of words
+pub take-bytes : (n : ℕ) (bs : List ℕ) → AreBytes bs → AreBytes (take n bs)
 take-bytes zero bs are i = lit< tt
 take-bytes (suc n) [] are i = are i
 take-bytes (suc n) (b ∷ bs) are zero = are zero
 take-bytes (suc n) (b ∷ bs) are (suc i) = take-bytes n bs (λ j. are (suc j)) i
 
-four-bytes : (w : ℕ) → AreBytes (four w)
-four-bytes w zero = byte-small w 0
-four-bytes w (suc zero) = byte-small w 1
-four-bytes w (suc (suc zero)) = byte-small w 2
-four-bytes w (suc (suc (suc zero))) = byte-small w 3
-four-bytes w (suc (suc (suc (suc i)))) = lit< tt
+pub words-bytes : (ws : List ℕ) → AreBytes (allUnits Bytes ws)
+words-bytes [] i = lit< tt
+words-bytes (w ∷ ws) zero = byte-small w 0
+words-bytes (w ∷ ws) (suc zero) = byte-small w 1
+words-bytes (w ∷ ws) (suc (suc zero)) = byte-small w 2
+words-bytes (w ∷ ws) (suc (suc (suc zero))) = byte-small w 3
+words-bytes (w ∷ ws) (suc (suc (suc (suc i)))) = words-bytes ws i
 
 pub data-over : (m : List ℕ) (place word left : ℕ) → Overwritten m (loaded m place (dataBytes word left))
-data-over m place word left = loaded-over m place (dataBytes word left) (take-bytes left (four word) (four-bytes word))
+data-over m place word left = loaded-over m place (dataBytes word left) (take-bytes left (allUnits Bytes (word ∷ [])) (words-bytes (word ∷ [])))

@@ -1,10 +1,10 @@
--- `sent::Session::open` meets its contract: the map is tested as in the definition.
+-- `sent::open_on` meets its contract: the map is tested as in the definition.
 use borrow.Author.Needs.{needs}
 use mathlib.Core.Path.{sym, _∙_}
 use Rattle.words.proofs.Choice.{chosen, passed}
 use Rattle.sent.specs.Opening.{openedBy}
-use Rattle.sent.proofs.Session.open.Statement.{statement}
-use Rattle.sent.proofs.Session.open.Tie as tie
+use Rattle.sent.proofs.open_on.Statement.{statement}
+use Rattle.sent.proofs.open_on.Tie as tie
 
 is-good-requires : tie.Need-is-good-requires
 is-good-requires c κs = search needs
@@ -31,8 +31,8 @@ returns-2 c =
     rw (c .begin .ensures, c .before .kept .ensures, c .before .before .greet .ensures)
     (sym (passed _ _ _ (rw (c .before .before .before .before .is-good .ensures) at (c .before .before .before .if1 .left))))
 
-pub open-spec : {M : Type 1} → statement M
-open-spec =
+pub open-on-spec : {M : Type 1} → statement M
+open-on-spec =
     tie.close
     (tie.spec
     is-good-requires
