@@ -36,6 +36,20 @@ uint64_t ais_half_session(const uint8_t *map, size_t map_len, uint8_t *memory, s
 uint64_t ais_flash_run(const uint8_t *map, size_t map_len, uint8_t *memory, size_t memory_len,
                        const uint8_t *image, size_t image_len, uint8_t limit);
 
+/* The same session in the dialect of the DM648 boards, on either line: line 0 is by bytes, as ais_sent_session,
+   and line 1 by halves, as ais_half_session; any other is 19 before anything else is looked at. Jump & Close has
+   two more words, the sections and the bytes that should have been loaded. A load or fill is a section, a
+   Start-Over takes back those of its attempt, and where a word differs from the total it is refused with 17,
+   after 10. On entering, the four letters DONE are replied. A load or fill that would take a total past
+   2^32 - 1 is 18, after 7; what one session can be fed never comes to that. */
+uint64_t ais_dm648_session(uint8_t line, const uint8_t *map, size_t map_len, uint8_t *memory, size_t memory_len,
+                           const uint8_t *fed, size_t fed_len, uint8_t *room, size_t room_len);
+
+/* The same run as ais_flash_run in the dialect of the DM648 boards: 17 and 18 as above, and a seek takes the
+   sections back that were loaded since the last Enable, or the last Request that matched. */
+uint64_t ais_dm648_run(const uint8_t *map, size_t map_len, uint8_t *memory, size_t memory_len,
+                       const uint8_t *image, size_t image_len, uint8_t limit);
+
 /* The same run as ais_flash_run: refusal * 2^32 + words fetched since the opening. The memory is left as
    that run leaves it. The first word of the image counts, and a word that is read again counts again.
    Never more words than (limit + 1) * (image_len / 4) are fetched. */

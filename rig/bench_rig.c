@@ -1,7 +1,8 @@
 /* A bench rig: feeds a script file to the loader in sent mode and prints what comes back.
 
-   bench_rig [--halves] SCRIPT_FILE [FIRST LENGTH RIGHTS]...
-   With --halves the file goes by the 16-bit line, two bytes a half, the low one first.
+   bench_rig [--halves] [--dm648] SCRIPT_FILE [FIRST LENGTH RIGHTS]...
+   With --halves the file goes by the 16-bit line, two bytes a half, the low one first. With --dm648 it is in the
+   dialect of the DM648 boards, whose Jump & Close has two totals.
    Without windows the map is one window of 4,096 bytes at 0x80000000 with all rights. Memory begins as zeros.
    The status is 0 when nothing was refused, 1 when something was, 2 when the rig could not run. */
 #include "ais.h"
@@ -118,6 +119,8 @@ static const char *refusal_text(uint32_t refusal)
     case 14: return "the session had already ended";
     case 15: return "a Jump, which is retired: the script is too old";
     case 16: return "the data do not fit the field";
+    case 17: return "the totals differ from what was loaded";
+    case 18: return "too much was loaded for the totals";
     case 19: return "too many bytes or halves, half a half, or too little room for replies";
     default: return "a refusal that sent mode does not have";
     }
@@ -162,30 +165,55 @@ static void print_memory(const struct stretch *map, const struct stretch *memory
     printf("%s\n", changed == 0 ? " none" : "");
 }
 
+/* What stands before the file. */
+struct options {
+    bool has_halves;
+    bool is_dm648;
+    int count;
+};
+
+static struct options read_options(char **arguments, int count)
+{
+    struct options options = {false, false, 0};
+
+    for (; options.count < count; options.count++) {
+        if (strcmp(arguments[options.count], "--halves") == 0)
+            options.has_halves = true;
+        else if (strcmp(arguments[options.count], "--dm648") == 0)
+            options.is_dm648 = true;
+        else
+            break;
+    }
+    return options;
+}
+
 /* Room for all replies: on either line two bytes for each byte of the script, and the greeting. */
-static uint64_t run_session(bool has_halves, const struct stretch *map, struct stretch *memory,
+static uint64_t run_session(const struct options *options, const struct stretch *map, struct stretch *memory,
                             const struct stretch *script, struct stretch *room)
 {
-    return (has_halves ? ais_half_session : ais_sent_session)(map->bytes, map->length, memory->bytes, memory->length,
-                                                              script->bytes, script->length, room->bytes,
-                                                              room->length);
+    if (options->is_dm648)
+        return ais_dm648_session(options->has_halves, map->bytes, map->length, memory->bytes, memory->length,
+                                 script->bytes, script->length, room->bytes, room->length);
+    return (options->has_halves ? ais_half_session : ais_sent_session)(map->bytes, map->length, memory->bytes,
+                                                                       memory->length, script->bytes, script->length,
+                                                                       room->bytes, room->length);
 }
 
 int main(int argument_count, char **arguments)
 {
-    bool has_halves = argument_count > 1 && strcmp(arguments[1], "--halves") == 0;
+    struct options options = read_options(arguments + 1, argument_count - 1);
     struct stretch script, map, memory, room;
     uint64_t value;
 
-    arguments += has_halves;
-    argument_count -= has_halves;
+    arguments += options.count;
+    argument_count -= options.count;
     if (argument_count < 2)
         stop("give a script file, and perhaps windows: first length rights");
     script = read_file(arguments[1]);
     map = read_map(arguments + 2, argument_count - 2);
     memory = make_memory(&map);
     room = make_stretch(GREETING_LENGTH + 2 * script.length);
-    value = run_session(has_halves, &map, &memory, &script, &room);
+    value = run_session(&options, &map, &memory, &script, &room);
     print_replies(room.bytes, (uint32_t)value);
     printf("refusal: %" PRIu32 ", %s\n", (uint32_t)(value >> 32), refusal_text((uint32_t)(value >> 32)));
     print_memory(&map, &memory);

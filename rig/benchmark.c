@@ -29,6 +29,7 @@ struct work {
     const char *name;
     enum work_kind kind;
     enum mode mode; /* sent by bytes or by halves, or flash */
+    bool is_dm648;  /* sent only */
     unsigned repeats; /* runs in one measurement */
     uint8_t script[SCRIPT_LIMIT];
     size_t length;
@@ -36,6 +37,7 @@ struct work {
 
 struct loader {
     uint64_t (*sent[FLASH])(const uint8_t *, size_t, uint8_t *, size_t, const uint8_t *, size_t, uint8_t *, size_t);
+    uint64_t (*dm648)(uint8_t, const uint8_t *, size_t, uint8_t *, size_t, const uint8_t *, size_t, uint8_t *, size_t);
     uint64_t (*flash)(const uint8_t *, size_t, uint8_t *, size_t, const uint8_t *, size_t, uint8_t);
     uint8_t (*read_text)(const uint8_t *, size_t, uint8_t *, size_t);
     uint8_t (*write_text)(const uint8_t *, size_t, uint8_t *, size_t);
@@ -50,10 +52,12 @@ struct lent {
 };
 
 static struct loader proved = {.sent = {ais_sent_session, ais_half_session},
+                               .dm648 = ais_dm648_session,
                                .flash = ais_flash_run,
                                .read_text = ais_hex_read,
                                .write_text = ais_hex_write};
 static struct loader plain = {.sent = {plain_sent_session, plain_half_session},
+                              .dm648 = plain_dm648_session,
                               .flash = plain_flash_run,
                               .read_text = plain_hex_read,
                               .write_text = plain_hex_write};
@@ -134,6 +138,16 @@ static void make_short(struct work *work, const char *name, enum mode mode, uint
     end_work(work);
 }
 
+/* The same fills of one word on a DM648, which counts each of them. A load or a long fill is counted once, and from flash
+   it is the same count, so that no other work of that dialect has a cost of its own. */
+static void make_counted(struct work *work, const char *name)
+{
+    make_short(work, name, BYTES, FILL, SHORT_COUNT);
+    work->is_dm648 = true;
+    add_word(work, SHORT_COUNT);
+    add_word(work, 4 * SHORT_COUNT);
+}
+
 /* Many fills of the whole memory. */
 static void make_fills(struct work *work, const char *name, uint32_t type)
 {
@@ -178,6 +192,9 @@ static double measure(struct loader *loader, const struct work *work)
         else if (work->kind == RUN)
             loader->value =
                 loader->flash(map, sizeof map, lent.memory, MEMORY_LENGTH, work->script, work->length, 0);
+        else if (work->is_dm648)
+            loader->value = loader->dm648(work->mode, map, sizeof map, lent.memory, MEMORY_LENGTH, work->script,
+                                          work->length, lent.room, ROOM_LENGTH);
         else
             loader->value = loader->sent[work->mode](map, sizeof map, lent.memory, MEMORY_LENGTH, work->script,
                                                      work->length, lent.room, ROOM_LENGTH);
@@ -238,7 +255,7 @@ static double measure_both(const struct work *work)
 
 int main(int argument_count, char **arguments)
 {
-    static struct work works[18];
+    static struct work works[19];
     double allowed = argument_count > 1 ? strtod(arguments[1], NULL) : 1e9, highest = 0;
 
     for (unsigned index = 0; index < 3; index++)
@@ -261,6 +278,7 @@ int main(int argument_count, char **arguments)
     make_short(&works[15], "one flash setting", FLASH, BOOT_TABLE, 1);
     make_text(&works[16], "text of 65,536 digits read", READ_TEXT);
     make_text(&works[17], "65,536 bytes written as text", WRITE_TEXT);
+    make_counted(&works[18], "3,200 DM648 fills of one word");
     printf("%-32s %12s %12s %8s\n", "microseconds, medians", "proved", "plain", "ratio");
     for (unsigned index = 0; index < sizeof works / sizeof *works; index++) {
         double ratio = measure_both(&works[index]);

@@ -4,7 +4,7 @@
 #include <stdio.h>
 #include <string.h>
 
-enum { FED_LIMIT = 65536, IMAGE_LIMIT = 65536, GREETING_LENGTH = 6 };
+enum { FED_LIMIT = 65536, IMAGE_LIMIT = 65536, GREETING_LENGTH = 6, HEAVY_EVERY = 50000 };
 
 /* ---- Good maps ---- */
 
@@ -103,6 +103,16 @@ void make_large_map(struct random_source *random, struct map *map)
     place_windows(random, map);
     if (chance(random, 70))
         map->windows[0].rights = ALL_RIGHTS;
+    encode_map(map);
+}
+
+/* One window of all the memory that is allowed, with all rights. */
+static void make_heavy_map(struct random_source *random, struct map *map)
+{
+    map->count = 1;
+    map->windows[0].length = MEMORY_LIMIT;
+    place_windows(random, map);
+    map->windows[0].rights = ALL_RIGHTS;
     encode_map(map);
 }
 
@@ -286,19 +296,53 @@ void write_good_setting(struct writer *writer)
         write_setting(writer, type, address, data, random_below(&writer->random, 1000));
 }
 
+/* Totals of a DM648 that are wrong, or right all the same: one more or less, changed places, those that a retry would
+   leave, none, or anything. */
+static struct totals break_totals(struct writer *writer)
+{
+    struct random_source *random = &writer->random;
+    struct totals totals = writer->loaded.now;
+
+    switch (random_below(random, 7)) {
+    case 0:
+        totals.sections += chance(random, 50) ? 1 : -1;
+        return totals;
+    case 1:
+        totals.bytes += chance(random, 50) ? 1 : -1;
+        return totals;
+    case 2:
+        return (struct totals){totals.bytes, totals.sections};
+    case 3:
+        return writer->loaded.kept;
+    case 4:
+        return (struct totals){0, 0};
+    case 5:
+        totals.bytes = (totals.bytes + 3) & ~(uint32_t)3;
+        return totals;
+    default:
+        return (struct totals){chance(random, 50) ? totals.sections : random_word(random), random_word(random)};
+    }
+}
+
+/* Mostly those that stand. */
+static struct totals choose_totals(struct writer *writer)
+{
+    return writer->is_dm648 && chance(&writer->random, 15) ? break_totals(writer) : writer->loaded.now;
+}
+
 void write_good_jump_and_close(struct writer *writer)
 {
     uint32_t address, size;
     const struct window *window;
 
     if (choose_range(writer, ENTRY_RIGHT, 4, 4, &address, &size)) {
-        write_jump_and_close(writer, address);
+        write_close_with(writer, address, choose_totals(writer));
         return;
     }
     /* A window of less than four bytes may still hold an entry address. */
     window = &writer->map->windows[0];
     if (writer->map->count > 0)
-        write_jump_and_close(writer, (window->first + 3) & ~(uint32_t)3);
+        write_close_with(writer, (window->first + 3) & ~(uint32_t)3, choose_totals(writer));
 }
 
 /* A seek from a Request at `offset`: to a command before it, to some word before it, or to a wrong place. */
@@ -573,7 +617,7 @@ static void write_flawed_jump_and_close(struct writer *writer)
     const uint32_t addresses[] = {end,           end & ~3u,         (end - 1) & ~3u,   (end - 4) | 1,
                                   window->first, window->first + 2, window->first - 4, random_word(random) & ~3u};
 
-    write_jump_and_close(writer, PICK(random, addresses));
+    write_close_with(writer, PICK(random, addresses), choose_totals(writer));
 }
 
 /* The retired Jump: as old scripts have it, with an address that no longer counts, or with nothing after it. */
@@ -752,6 +796,35 @@ static void write_sent_beginning(struct writer *writer)
         write_switch(writer, OPCODE_ENABLE);
 }
 
+/* Short sections between opcodes that keep them, take them back, or leave that open. */
+static void write_totals_walk(struct writer *writer)
+{
+    static const uint32_t turns[] = {OPCODE_ENABLE, OPCODE_DISABLE, OPCODE_START_OVER, OPCODE_START_OVER};
+    struct random_source *random = &writer->random;
+    uint32_t address, size;
+
+    for (unsigned count = 4 + random_below(random, 10); count > 0; count--) {
+        switch (random_below(random, 8)) {
+        case 0:
+        case 1:
+            write_sent_request(writer);
+            break;
+        case 2:
+        case 3:
+        case 4:
+            write_switch(writer, PICK(random, turns));
+            break;
+        case 5:
+            write_ping(writer, 0);
+            break;
+        default:
+            if (choose_range(writer, LOAD_RIGHT, 1, 3, &address, &size))
+                write_load(writer, address, size);
+            break;
+        }
+    }
+}
+
 static void write_sent_script(struct writer *writer)
 {
     struct random_source *random = &writer->random;
@@ -759,6 +832,8 @@ static void write_sent_script(struct writer *writer)
     write_sent_beginning(writer);
     if (chance(random, 1))
         write_requests_only(writer, random_below(random, 400));
+    else if (writer->is_dm648 && chance(random, 20))
+        write_totals_walk(writer);
     else
         write_commands(writer);
     if (chance(random, 55))
@@ -818,12 +893,34 @@ static void break_image_length(struct writer *writer)
     }
 }
 
+/* A Request that differs once and seeks to before the last one that matched. The first pass has the checksum on and the
+   second has it off; the fill at the front, which both count, leaves the register at 0 either way. */
+static void write_seek_behind(struct writer *writer)
+{
+    uint32_t address, size, begin;
+
+    if (!choose_range(writer, LOAD_RIGHT, 4, 400, &address, &size))
+        return;
+    write_switch(writer, OPCODE_ENABLE);
+    begin = (uint32_t)writer->length;
+    write_vanishing_fill(writer, address, size);
+    write_flash_request(writer, 0, random_word(&writer->random));
+    write_good_fill(writer);
+    write_switch(writer, OPCODE_DISABLE);
+    write_flash_request(writer, 0, begin - ((uint32_t)writer->length + 12));
+    writer->loaded.now.sections += 1;
+    writer->loaded.now.bytes += size;
+    writer->loaded.kept = writer->loaded.now;
+}
+
 static void write_image(struct writer *writer)
 {
     struct random_source *random = &writer->random;
 
     write_image_beginning(writer);
     write_commands(writer);
+    if (writer->is_dm648 && chance(random, 6))
+        write_seek_behind(writer);
     if (chance(random, 80))
         write_good_jump_and_close(writer);
     if (chance(random, 12))
@@ -851,9 +948,47 @@ static void write_large_image(struct writer *writer)
         write_good_command(writer);
     if (has_more)
         write_some_flash_request(writer);
-    while (writer->length + 8 < length)
+    while (writer->length + (writer->is_dm648 ? 16 : 8) < length)
         write_switch(writer, OPCODE_SEQUENTIAL_READ_ENABLE);
     write_jump_and_close(writer, (window->first + 3) & ~(uint32_t)3);
+}
+
+/* What every pass of a heavy image loads: fills of the whole memory, and the rest as a fill and perhaps a short load. */
+static void write_heavy_sections(struct writer *writer, uint64_t bytes)
+{
+    struct random_source *random = &writer->random;
+    uint32_t first = writer->map->windows[0].first, loaded = chance(random, 50) ? random_below(random, 40) : 0;
+
+    for (; bytes >= MEMORY_LIMIT; bytes -= MEMORY_LIMIT)
+        write_fill(writer, first, MEMORY_LIMIT, random_below(random, 3), 0);
+    loaded = loaded < bytes ? loaded : (uint32_t)bytes;
+    write_fill(writer, first, (uint32_t)bytes - loaded, 0, choose_pattern(random));
+    if (loaded > 0)
+        write_load(writer, first, loaded);
+}
+
+/* An image that loads so many bytes by passes, which a Request that never matches brings about. What stands in each pass
+   before a Request that matches, or an Enable, a retry keeps. The checksum is off all the time. Gives back the limit. */
+static uint8_t write_heavy_image(struct writer *writer, uint64_t bytes)
+{
+    struct random_source *random = &writer->random;
+    uint32_t passes = chance(random, 30) ? 256 : 32 + random_below(random, 225), begin;
+
+    write_word(writer, FIRST_WORD);
+    write_fill(writer, writer->map->windows[0].first, (uint32_t)(bytes % passes), 0, choose_pattern(random));
+    begin = (uint32_t)writer->length;
+    write_heavy_sections(writer, bytes / passes);
+    if (chance(random, 70)) {
+        write_flash_request(writer, 0, random_word(random));
+    } else {
+        write_switch(writer, OPCODE_ENABLE);
+        write_switch(writer, OPCODE_DISABLE);
+    }
+    if (chance(random, 40)) /* what is put back */
+        write_good_load(writer);
+    write_flash_request(writer, 1 + random_below(random, 1000), begin - ((uint32_t)writer->length + 12));
+    write_good_jump_and_close(writer);
+    return (uint8_t)(passes < 256 && chance(random, 50) ? passes : passes - 1);
 }
 
 /* ---- Cases ---- */
@@ -910,27 +1045,56 @@ static uint8_t choose_limit(struct random_source *random, size_t image_length)
     return drawn < 90 ? 255 : (uint8_t)random_below(random, 256);
 }
 
-void make_case(struct bench_case *bench_case, uint64_t seed, uint64_t number)
+/* The number of the line, or one that no line has. */
+static uint8_t choose_line(struct random_source *random, bool has_halves, bool is_wrong)
 {
-    struct random_source random = random_from(seed, number);
-    struct writer *script = &bench_case->script;
-    bool is_flash = number % 2 != 0;
-    bool is_large = random_below(&random, 400) == 0;
-    uint32_t wrong_percent = chance(&random, 3) ? 50 : 2; /* at times several things are wrong at once */
+    static const uint32_t wrong[] = {2, 3, 16, 128, 129, 254, 255};
 
-    bench_case->seed = seed;
-    bench_case->number = number;
-    choose_map(&random, &bench_case->map, is_large);
-    script->random = random_from(seed ^ 0x5343524950543A29, number);
-    begin_script(script, &bench_case->map, is_flash, number % 4 == 2);
-    if (is_flash && is_large)
+    return (uint8_t)(is_wrong ? PICK(random, wrong) : has_halves);
+}
+
+/* By turns two and one byte below 2^32, 2^32 itself and one byte more. */
+static void make_heavy_case(struct bench_case *bench_case, struct random_source *random)
+{
+    struct writer *script = &bench_case->script;
+    uint64_t bytes = (uint64_t)UINT32_MAX - 1 + bench_case->number / HEAVY_EVERY % 4;
+
+    make_heavy_map(random, &bench_case->map);
+    begin_script(script, &bench_case->map, true, false, true);
+    bench_case->limit = write_heavy_image(script, bytes);
+    bench_case->memory_length = MEMORY_LIMIT;
+}
+
+static void write_some_script(struct writer *script, bool is_large)
+{
+    if (script->is_flash && is_large)
         write_large_image(script);
-    else if (is_flash)
+    else if (script->is_flash)
         write_image(script);
     else if (is_large)
         write_large_sent_script(script);
     else
         write_sent_script(script);
+}
+
+void make_case(struct bench_case *bench_case, uint64_t seed, uint64_t number)
+{
+    struct random_source random = random_from(seed, number);
+    struct writer *script = &bench_case->script;
+    bool is_flash = number % 2 != 0, is_dm648 = number / 4 % 2 != 0;
+    bool is_large = random_below(&random, 400) == 0;
+    uint32_t wrong_percent = chance(&random, 3) ? 50 : 2; /* at times several things are wrong at once */
+
+    bench_case->seed = seed;
+    bench_case->number = number;
+    script->random = random_from(seed ^ 0x5343524950543A29, number);
+    if (number % HEAVY_EVERY == HEAVY_EVERY - 1) {
+        make_heavy_case(bench_case, &random);
+        return;
+    }
+    choose_map(&random, &bench_case->map, is_large);
+    begin_script(script, &bench_case->map, is_flash, number % 4 == 2, is_dm648);
+    write_some_script(script, is_large);
     if (chance(&random, wrong_percent + 3))
         break_map(&random, &bench_case->map);
     if (is_flash && wrong_percent == 50 && chance(&random, 50))
@@ -938,6 +1102,7 @@ void make_case(struct bench_case *bench_case, uint64_t seed, uint64_t number)
     bench_case->memory_length = choose_memory_length(&random, &bench_case->map, chance(&random, wrong_percent));
     bench_case->room_length = choose_room_length(&random, script, chance(&random, wrong_percent));
     bench_case->limit = choose_limit(&random, script->length);
+    bench_case->line = choose_line(&random, script->has_halves, is_dm648 && chance(&random, wrong_percent));
 }
 
 void fill_memory(const struct bench_case *bench_case, uint8_t *memory, size_t length)
@@ -967,7 +1132,8 @@ void print_case(const struct bench_case *bench_case)
     const struct map *map = &bench_case->map;
     bool is_flash = bench_case->script.is_flash;
 
-    printf("seed %" PRIu64 ", case %" PRIu64 ", %s mode\n", bench_case->seed, bench_case->number,
+    printf("seed %" PRIu64 ", case %" PRIu64 ", %s, %s mode\n", bench_case->seed, bench_case->number,
+           bench_case->script.is_dm648 ? "DM648" : "AM17xx",
            is_flash ? "flash" : bench_case->script.has_halves ? "sent (halves)" : "sent (bytes)");
     for (unsigned index = 0; index < map->count; index++)
         printf("window 0x%08" PRIX32 ", length %" PRIu32 ", rights %" PRIu32 "\n", map->windows[index].first,
@@ -978,5 +1144,5 @@ void print_case(const struct bench_case *bench_case)
     if (is_flash)
         printf("retry limit %u\n", bench_case->limit);
     else
-        printf("room of %zu bytes\n", bench_case->room_length);
+        printf("room of %zu bytes, line %u\n", bench_case->room_length, bench_case->line);
 }

@@ -11,11 +11,13 @@ struct bench_case {
     size_t memory_length;
     struct writer script; /* the bytes fed, or the image */
     size_t room_length;   /* sent mode only */
+    uint8_t line;         /* sent mode of a DM648 only: the line as a number, at times one that there is not */
     uint8_t limit;        /* flash mode only */
 };
 
 /* Makes the case of this seed and number: sent mode for even numbers, by bytes and by halves in turns, flash
-   mode for odd ones. */
+   mode for odd ones; four numbers for the AM17xx and four for the DM648 in turns. Every 50,000th is a heavy one, which
+   takes the totals of a DM648 to about 2^32. */
 void make_case(struct bench_case *bench_case, uint64_t seed, uint64_t number);
 
 /* The parts that make_case is put together from. */

@@ -3,7 +3,8 @@
    compare COUNT SEED [FIRST] runs COUNT cases of the seed, from case FIRST on. It ends with status 1 at the
    first difference, or (unless FIRST is given) when a refusal or a command was not met at all, no command of a kind
    that writes was accepted over a seam, or no flash case met its ceiling of words fetched. In flash mode 14 can't be
-   met, since a run stops when its session ends. */
+   met, since a run stops when its session ends; in sent mode 18 can't, since what may be fed loads less than 2^29 bytes.
+   17 and 18 are for the DM648, and 18 takes the heavy cases: with less than 150,000 cases it may not be met. */
 #include "ais.h"
 #include "cases.h"
 #include "plain_loader.h"
@@ -17,6 +18,8 @@
 #include <unistd.h>
 
 typedef uint64_t sent_entry(const uint8_t *, size_t, uint8_t *, size_t, const uint8_t *, size_t, uint8_t *, size_t);
+typedef uint64_t dm648_entry(uint8_t, const uint8_t *, size_t, uint8_t *, size_t, const uint8_t *, size_t, uint8_t *,
+                             size_t);
 typedef uint64_t flash_entry(const uint8_t *, size_t, uint8_t *, size_t, const uint8_t *, size_t, uint8_t);
 
 enum { GUARD = 17, REFUSAL_LIMIT = 256, CASE_SECONDS = 30 };
@@ -38,15 +41,17 @@ struct outcome {
     uint64_t value;
 };
 
+/* Counts of one thing, by dialect and mode. */
+typedef uint64_t counts[PLAIN_DIALECTS][PLAIN_MODES];
+
 struct tally {
-    uint64_t cases[PLAIN_MODES];
-    uint64_t refusals[PLAIN_MODES][REFUSAL_LIMIT];
-    uint64_t entered[PLAIN_MODES];
-    uint64_t retried;          /* flash cases with a retry */
-    uint64_t entered_by_retry; /* and of these, those that entered */
-    uint64_t retries;          /* counted in all */
-    uint64_t fetched;          /* words in all flash cases */
-    uint64_t at_ceiling;       /* flash cases that fetched as many words as any may */
+    counts cases;
+    counts refusals[REFUSAL_LIMIT];
+    counts retried;          /* cases with a retry, flash only */
+    counts entered_by_retry; /* and of these, those that entered */
+    counts retries;          /* counted in all */
+    counts fetched;          /* words in all flash cases */
+    counts at_ceiling;       /* flash cases that fetched as many words as any may */
 };
 
 static char crash_notice[100];
@@ -89,18 +94,39 @@ static bool guards_hold(const struct lent *lent)
 struct loader {
     sent_entry *bytes;
     sent_entry *halves;
-    flash_entry *flash;
+    dm648_entry *dm648;
+    flash_entry *flash[PLAIN_DIALECTS];
 };
 
-static const struct loader PROVED = {ais_sent_session, ais_half_session, ais_flash_run};
-static const struct loader COUNTING = {ais_sent_session, ais_half_session, ais_flash_fetched};
-static const struct loader PLAIN = {plain_sent_session, plain_half_session, plain_flash_run};
+static const struct loader PROVED = {ais_sent_session, ais_half_session, ais_dm648_session,
+                                     {ais_flash_run, ais_dm648_run}};
+static const struct loader COUNTING = {.flash = {ais_flash_fetched}};
+static const struct loader PLAIN = {plain_sent_session, plain_half_session, plain_dm648_session,
+                                    {plain_flash_run, plain_dm648_run}};
+
+static uint64_t run_flash(const struct bench_case *bench_case, struct outcome *outcome, const struct loader *loader)
+{
+    return loader->flash[bench_case->script.is_dm648](outcome->map.bytes, outcome->map.length, outcome->memory.bytes,
+                                                      outcome->memory.length, outcome->script.bytes,
+                                                      outcome->script.length, bench_case->limit);
+}
+
+static uint64_t run_sent(const struct bench_case *bench_case, struct outcome *outcome, const struct loader *loader)
+{
+    struct lent *map = &outcome->map, *script = &outcome->script, *memory = &outcome->memory, *room = &outcome->room;
+
+    if (bench_case->script.is_dm648)
+        return loader->dm648(bench_case->line, map->bytes, map->length, memory->bytes, memory->length, script->bytes,
+                             script->length, room->bytes, room->length);
+    return (bench_case->script.has_halves ? loader->halves : loader->bytes)(
+        map->bytes, map->length, memory->bytes, memory->length, script->bytes, script->length, room->bytes,
+        room->length);
+}
 
 /* The plain loader gets no guards, so that the sanitizer sees the first byte too far. */
 static void run_loader(const struct bench_case *bench_case, struct outcome *outcome, size_t guard,
                        const struct loader *loader)
 {
-    sent_entry *sent = bench_case->script.has_halves ? loader->halves : loader->bytes;
     const struct writer *script = &bench_case->script;
 
     outcome->map = lend_copy(bench_case->map.bytes, bench_case->map.length, guard);
@@ -109,12 +135,7 @@ static void run_loader(const struct bench_case *bench_case, struct outcome *outc
     outcome->room = lend(script->is_flash ? 0 : bench_case->room_length, guard);
     fill_memory(bench_case, outcome->memory.bytes, outcome->memory.length);
     fill_room(bench_case, outcome->room.bytes, outcome->room.length);
-    if (script->is_flash)
-        outcome->value = loader->flash(outcome->map.bytes, outcome->map.length, outcome->memory.bytes, outcome->memory.length,
-                                       outcome->script.bytes, outcome->script.length, bench_case->limit);
-    else
-        outcome->value = sent(outcome->map.bytes, outcome->map.length, outcome->memory.bytes, outcome->memory.length,
-                              outcome->script.bytes, outcome->script.length, outcome->room.bytes, outcome->room.length);
+    outcome->value = (script->is_flash ? run_flash : run_sent)(bench_case, outcome, loader);
 }
 
 static void free_outcome(struct outcome *outcome)
@@ -217,107 +238,147 @@ static unsigned mode_of(const struct writer *script)
     return script->has_halves ? PLAIN_HALVES : PLAIN_BYTES;
 }
 
+static void count_flash(struct tally *tally, const struct bench_case *bench_case, unsigned dialect, uint64_t value)
+{
+    uint64_t retries = value >> 48 & 0xFF;
+
+    tally->retried[dialect][PLAIN_FLASH] += retries != 0;
+    tally->entered_by_retry[dialect][PLAIN_FLASH] += retries != 0 && value >> 56 == 0;
+    tally->retries[dialect][PLAIN_FLASH] += retries;
+    tally->fetched[dialect][PLAIN_FLASH] += plain_fetched;
+    tally->at_ceiling[dialect][PLAIN_FLASH] += plain_fetched != 0 && plain_fetched == ceiling_of(bench_case);
+}
+
 static void count_case(struct tally *tally, const struct bench_case *bench_case, uint64_t value)
 {
-    unsigned mode = mode_of(&bench_case->script);
+    unsigned dialect = bench_case->script.is_dm648, mode = mode_of(&bench_case->script);
     unsigned refusal = (unsigned)(mode == PLAIN_FLASH ? value >> 56 : value >> 32);
 
-    tally->cases[mode]++;
-    tally->refusals[mode][refusal % REFUSAL_LIMIT]++;
-    tally->entered[mode] = plain_accepted[mode][PLAIN_JUMP_AND_CLOSE];
-    if (mode == PLAIN_FLASH && (value >> 48 & 0xFF) != 0) {
-        tally->retried++;
-        tally->entered_by_retry += refusal == 0;
-        tally->retries += value >> 48 & 0xFF;
-    }
-    if (mode == PLAIN_FLASH) {
-        tally->fetched += plain_fetched;
-        tally->at_ceiling += plain_fetched != 0 && plain_fetched == ceiling_of(bench_case);
-    }
+    tally->cases[dialect][mode]++;
+    tally->refusals[refusal % REFUSAL_LIMIT][dialect][mode]++;
+    if (mode == PLAIN_FLASH)
+        count_flash(tally, bench_case, dialect, value);
 }
 
-/* One row of counts, a mode each. */
-static void print_row(const char *name, int width, const uint64_t *counts)
+static uint64_t sum_of(const counts row)
 {
-    printf("%-*s", width, name);
-    for (unsigned mode = 0; mode < PLAIN_MODES; mode++)
-        printf("%10" PRIu64, counts[mode]);
+    uint64_t sum = 0;
+
+    for (unsigned way = 0; way < PLAIN_DIALECTS * PLAIN_MODES; way++)
+        sum += row[way / PLAIN_MODES][way % PLAIN_MODES];
+    return sum;
+}
+
+enum { NAME_WIDTH = 24 };
+
+/* One row of counts, a column for each mode of each dialect. */
+static void print_row(const char *name, const counts row)
+{
+    printf("%-*s", NAME_WIDTH, name);
+    for (unsigned way = 0; way < PLAIN_DIALECTS * PLAIN_MODES; way++)
+        printf("%10" PRIu64, row[way / PLAIN_MODES][way % PLAIN_MODES]);
     printf("\n");
 }
 
-static void print_heading(const char *name, int width)
+/* The names of the dialects, and below them those of the modes. */
+static void print_heading(const char *name)
 {
-    printf("%-*s", width, name);
-    for (unsigned mode = 0; mode < PLAIN_MODES; mode++)
-        printf("%10s", plain_mode_name(mode));
+    printf("%-*s", NAME_WIDTH, "");
+    for (unsigned dialect = 0; dialect < PLAIN_DIALECTS; dialect++)
+        printf("%10s%*s", plain_dialect_name(dialect), 10 * (PLAIN_MODES - 1), "");
+    printf("\n%-*s", NAME_WIDTH, name);
+    for (unsigned way = 0; way < PLAIN_DIALECTS * PLAIN_MODES; way++)
+        printf("%10s", plain_mode_name(way % PLAIN_MODES));
     printf("\n");
+}
+
+/* A row for a kind of command. */
+static void print_kind(plain_counts *accepted, unsigned kind)
+{
+    counts row;
+
+    for (unsigned way = 0; way < PLAIN_DIALECTS * PLAIN_MODES; way++)
+        row[way / PLAIN_MODES][way % PLAIN_MODES] = (*accepted)[way / PLAIN_MODES][way % PLAIN_MODES][kind];
+    print_row(plain_command_name(kind), (const uint64_t(*)[PLAIN_MODES])row);
 }
 
 static void print_tally(const struct tally *tally)
 {
-    print_heading("refusal", 11);
+    print_heading("refusal");
     for (unsigned refusal = 0; refusal < REFUSAL_LIMIT; refusal++) {
-        uint64_t counts[PLAIN_MODES], sum = 0;
         char name[12];
-        for (unsigned mode = 0; mode < PLAIN_MODES; mode++)
-            sum += counts[mode] = tally->refusals[mode][refusal];
         snprintf(name, sizeof name, "%7u", refusal);
-        if (sum != 0)
-            print_row(name, 11, counts);
+        if (sum_of(tally->refusals[refusal]) != 0)
+            print_row(name, tally->refusals[refusal]);
     }
-    print_row("cases", 11, tally->cases);
-    print_row("entered", 11, tally->entered);
-    printf("retried    %10s%10s%10" PRIu64 ", of which %" PRIu64 " entered; %" PRIu64 " retries in all\n", "", "",
-           tally->retried, tally->entered_by_retry, tally->retries);
-    printf("fetched    %10s%10s%10" PRIu64 " words; %" PRIu64 " cases met their ceiling\n\n", "", "", tally->fetched,
-           tally->at_ceiling);
-    print_heading("accepted commands", 22);
-    for (unsigned kind = 0; kind < PLAIN_COMMANDS; kind++) {
-        uint64_t counts[PLAIN_MODES];
-        for (unsigned mode = 0; mode < PLAIN_MODES; mode++)
-            counts[mode] = plain_accepted[mode][kind];
-        print_row(plain_command_name(kind), 22, counts);
-    }
+    print_row("cases", tally->cases);
+    print_row("retried", tally->retried);
+    print_row("  and entered", tally->entered_by_retry);
+    print_row("retries", tally->retries);
+    print_row("words fetched", tally->fetched);
+    print_row("cases at their ceiling", tally->at_ceiling);
+    printf("\n");
+    print_heading("accepted commands");
+    for (unsigned kind = 0; kind < PLAIN_COMMANDS; kind++)
+        print_kind(&plain_accepted, kind);
 }
 
 /* Load, Fill and Boot Table have ranges of bytes, and so may lie over a seam; the others never do. */
 static void print_over_seam(void)
 {
     printf("\n");
-    print_heading("accepted over a seam", 22);
-    for (unsigned kind = 0; kind < PLAIN_COMMANDS; kind++) {
-        uint64_t counts[PLAIN_MODES];
-        for (unsigned mode = 0; mode < PLAIN_MODES; mode++)
-            counts[mode] = plain_accepted_over_seam[mode][kind];
+    print_heading("accepted over a seam");
+    for (unsigned kind = 0; kind < PLAIN_COMMANDS; kind++)
         if (plain_command_writes(kind))
-            print_row(plain_command_name(kind), 22, counts);
-    }
+            print_kind(&plain_accepted_over_seam, kind);
 }
 
-static bool all_refusals_met(const struct tally *tally, unsigned mode, const unsigned *refusals, size_t count)
+static bool is_listed(unsigned refusal, const unsigned *list, size_t count)
+{
+    for (size_t index = 0; index < count; index++)
+        if (list[index] == refusal)
+            return true;
+    return false;
+}
+
+#define IS_LISTED(refusal, list) is_listed(refusal, list, sizeof(list) / sizeof((list)[0]))
+
+/* Whether a refusal can be met: those of both modes, those that a DM648 has alone, and those of one mode. */
+static bool can_be_met(unsigned dialect, unsigned mode, unsigned refusal)
+{
+    static const unsigned both[] = {0, 1, 2, 6, 7, 8, 9, 10, 15, 16}, sent[] = {14, 19}, flash[] = {3, 4, 5, 11, 12};
+
+    if (refusal == 17 || refusal == 18)
+        return dialect == PLAIN_DM648 && (refusal == 17 || mode == PLAIN_FLASH);
+    return IS_LISTED(refusal, both) || (mode == PLAIN_FLASH ? IS_LISTED(refusal, flash) : IS_LISTED(refusal, sent));
+}
+
+/* Every refusal that can be met is, and no other. */
+static bool all_refusals_met(const struct tally *tally, unsigned dialect, unsigned mode)
 {
     bool is_met = true;
 
-    for (size_t index = 0; index < count; index++) {
-        if (tally->refusals[mode][refusals[index]] == 0) {
-            printf("refusal %u was not met (%s)\n", refusals[index], plain_mode_name(mode));
+    for (unsigned refusal = 0; refusal < REFUSAL_LIMIT; refusal++) {
+        bool was_met = tally->refusals[refusal][dialect][mode] != 0;
+        if (was_met != can_be_met(dialect, mode, refusal)) {
+            printf("refusal %u was %s (%s, %s)\n", refusal, was_met ? "met" : "not met", plain_dialect_name(dialect),
+                   plain_mode_name(mode));
             is_met = false;
         }
     }
     return is_met;
 }
 
-static bool all_commands_met(void)
+static bool all_commands_met(unsigned dialect, unsigned mode)
 {
     bool is_met = true;
 
-    for (unsigned mode = 0; mode < PLAIN_MODES; mode++) {
-        for (unsigned kind = 0; kind < PLAIN_COMMANDS; kind++) {
-            if ((plain_command_allowed(mode, kind) && plain_accepted[mode][kind] == 0) ||
-                (plain_command_writes(kind) && plain_accepted_over_seam[mode][kind] == 0)) {
-                printf("%s was never accepted, or never over a seam (%s)\n", plain_command_name(kind), plain_mode_name(mode));
-                is_met = false;
-            }
+    for (unsigned kind = 0; kind < PLAIN_COMMANDS; kind++) {
+        if ((plain_command_allowed(mode, kind) && plain_accepted[dialect][mode][kind] == 0) ||
+            (plain_command_writes(kind) && plain_accepted_over_seam[dialect][mode][kind] == 0)) {
+            printf("%s was never accepted, or never over a seam (%s, %s)\n", plain_command_name(kind),
+                   plain_dialect_name(dialect), plain_mode_name(mode));
+            is_met = false;
         }
     }
     return is_met;
@@ -325,15 +386,19 @@ static bool all_commands_met(void)
 
 static bool everything_met(const struct tally *tally)
 {
-    static const unsigned sent[] = {0, 1, 2, 6, 7, 8, 9, 10, 14, 15, 16, 19};
-    static const unsigned flash[] = {0, 1, 2, 3, 4, 5, 6, 7, 8, 9, 10, 11, 12, 15, 16};
-    bool is_met = all_refusals_met(tally, PLAIN_BYTES, sent, sizeof sent / sizeof sent[0]);
+    bool is_met = true;
 
-    is_met &= all_refusals_met(tally, PLAIN_HALVES, sent, sizeof sent / sizeof sent[0]);
-    is_met &= all_refusals_met(tally, PLAIN_FLASH, flash, sizeof flash / sizeof flash[0]);
-    if (tally->at_ceiling == 0)
-        printf("no case met its ceiling\n");
-    return all_commands_met() && is_met && tally->at_ceiling != 0;
+    for (unsigned dialect = 0; dialect < PLAIN_DIALECTS; dialect++) {
+        for (unsigned mode = 0; mode < PLAIN_MODES; mode++) {
+            is_met &= all_refusals_met(tally, dialect, mode);
+            is_met &= all_commands_met(dialect, mode);
+        }
+        if (tally->at_ceiling[dialect][PLAIN_FLASH] == 0 || tally->entered_by_retry[dialect][PLAIN_FLASH] == 0) {
+            printf("no case met its ceiling, or none entered by a retry (%s)\n", plain_dialect_name(dialect));
+            is_met = false;
+        }
+    }
+    return is_met;
 }
 
 /* ---- The whole run ---- */
@@ -358,7 +423,7 @@ static bool compare_case(struct bench_case *bench_case, struct tally *tally, uin
     run_loader(bench_case, &proved, GUARD, &PROVED);
     count_case(tally, bench_case, plain.value);
     is_same = same_outcome(bench_case, &proved, &plain);
-    if (bench_case->script.is_flash)
+    if (bench_case->script.is_flash && !bench_case->script.is_dm648)
         is_same &= same_count(bench_case, &plain);
     free_outcome(&plain);
     free_outcome(&proved);

@@ -2,6 +2,8 @@
 #include "plain_loader.h"
 
 #include <stdbool.h>
+#include <stdio.h>
+#include <stdlib.h>
 #include <string.h>
 
 enum refusal {
@@ -21,6 +23,8 @@ enum refusal {
     SESSION_ENDED = 14,
     OPCODE_RETIRED = 15,
     DATA_TOO_WIDE = 16,
+    TOTALS_DIFFER = 17,
+    TOTAL_TOO_LARGE = 18,
     CALL_WRONG = 19
 };
 
@@ -68,7 +72,7 @@ enum { NOT_ALLOWED = -1 };
 
 struct command_row {
     uint32_t opcode;
-    int sent_words, flash_words; /* how many argument words */
+    int sent_words, flash_words; /* how many argument words; a Jump & Close of a DM648 has two more */
     const char *name;
 };
 
@@ -88,9 +92,16 @@ static const struct command_row COMMANDS[PLAIN_COMMANDS] = {
 /* Jump, which no mode takes any more. */
 static const uint32_t RETIRED = 0x58535905;
 
-uint64_t plain_accepted[PLAIN_MODES][PLAIN_COMMANDS];
-uint64_t plain_accepted_over_seam[PLAIN_MODES][PLAIN_COMMANDS];
+plain_counts plain_accepted;
+plain_counts plain_accepted_over_seam;
 uint32_t plain_fetched;
+
+const char *plain_dialect_name(unsigned dialect)
+{
+    static const char *const names[PLAIN_DIALECTS] = {"AM17xx", "DM648"};
+
+    return names[dialect];
+}
 
 const char *plain_mode_name(unsigned mode)
 {
@@ -104,14 +115,19 @@ const char *plain_command_name(unsigned kind)
     return COMMANDS[kind].name;
 }
 
-static int argument_words(unsigned mode, unsigned kind)
+static int row_words(unsigned mode, unsigned kind)
 {
     return mode == PLAIN_FLASH ? COMMANDS[kind].flash_words : COMMANDS[kind].sent_words;
 }
 
+static unsigned argument_words(unsigned dialect, unsigned mode, unsigned kind)
+{
+    return (unsigned)row_words(mode, kind) + (dialect == PLAIN_DM648 && kind == JUMP_AND_CLOSE ? 2 : 0);
+}
+
 int plain_command_allowed(unsigned mode, unsigned kind)
 {
-    return argument_words(mode, kind) != NOT_ALLOWED;
+    return row_words(mode, kind) != NOT_ALLOWED;
 }
 
 int plain_command_writes(unsigned kind)
@@ -207,10 +223,70 @@ static unsigned find_place(const struct map *map, enum right right, uint32_t add
     return 0;
 }
 
+/* ---- Sections, which a DM648 counts ---- */
+
+/* All sections that stand, in their order: for each, the bytes of it and of all before it. What a retry takes back is
+   the end of the list, from the last place on at which a retry could begin. */
+struct sections {
+    uint64_t *bytes;
+    size_t count;
+    size_t room;
+    size_t kept;        /* how many of them a retry leaves */
+    bool has_requested; /* sent mode: the last opcode was a Request, after which a retry may still come */
+};
+
+static uint64_t bytes_of(const struct sections *sections)
+{
+    return sections->count == 0 ? 0 : sections->bytes[sections->count - 1];
+}
+
+static bool is_too_large(const struct sections *sections, uint32_t size)
+{
+    return (uint64_t)sections->count + 1 > UINT32_MAX || bytes_of(sections) + size > UINT32_MAX;
+}
+
+static void append_section(struct sections *sections, uint32_t size)
+{
+    if (sections->count == sections->room) {
+        sections->room = 2 * sections->room + 64;
+        sections->bytes = realloc(sections->bytes, sections->room * sizeof *sections->bytes);
+        if (sections->bytes == NULL) {
+            fprintf(stderr, "no memory left\n");
+            exit(2);
+        }
+    }
+    sections->bytes[sections->count] = bytes_of(sections) + size;
+    sections->count++;
+}
+
+/* From here on a retry would begin. */
+static void keep_sections(struct sections *sections)
+{
+    sections->kept = sections->count;
+}
+
+static void drop_sections(struct sections *sections)
+{
+    sections->count = sections->kept;
+}
+
+/* What an opcode on the line says of the sections before it: a Start-Over takes them back, any other opcode directly
+   after a Request says that they were right. */
+static void judge_sections(struct sections *sections, enum command command)
+{
+    if (command == START_OVER)
+        drop_sections(sections);
+    else if (sections->has_requested || command == ENABLE)
+        keep_sections(sections);
+    sections->has_requested = command == REQUEST;
+}
+
 /* ---- What both modes share ---- */
 
 struct loader {
+    unsigned dialect;
     struct map map;
+    struct sections sections; /* none in AM17xx */
     uint8_t *memory;
     uint32_t checksum;
     bool checksum_on;
@@ -225,10 +301,22 @@ static bool grant(struct loader *loader, enum right right, uint32_t address, uin
     return loader->windows_taken > 0;
 }
 
+/* Whether one more section of that size is too much. */
+static bool section_is_too_much(const struct loader *loader, uint32_t size)
+{
+    return loader->dialect == PLAIN_DM648 && is_too_large(&loader->sections, size);
+}
+
+static void add_section(struct loader *loader, uint32_t size)
+{
+    if (loader->dialect == PLAIN_DM648)
+        append_section(&loader->sections, size);
+}
+
 static void count_accepted(struct loader *loader, unsigned mode, enum command command)
 {
-    plain_accepted[mode][command]++;
-    plain_accepted_over_seam[mode][command] += loader->windows_taken > 1;
+    plain_accepted[loader->dialect][mode][command]++;
+    plain_accepted_over_seam[loader->dialect][mode][command] += loader->windows_taken > 1;
     loader->windows_taken = 0;
 }
 
@@ -265,6 +353,17 @@ static void start_over(struct loader *loader)
     loader->checksum = 0;
 }
 
+/* Repeats the low bytes of a pattern, one unit of them. Zeros go quickly: it takes 2^32 bytes to come to TOTAL_TOO_LARGE. */
+static void put_pattern(uint8_t *bytes, uint32_t size, uint32_t unit, uint32_t pattern)
+{
+    if (pattern == 0) {
+        memset(bytes, 0, size);
+        return;
+    }
+    for (uint32_t index = 0; index < size; index++)
+        bytes[index] = (uint8_t)(pattern >> (8 * (index & (unit - 1))));
+}
+
 static enum refusal fill(struct loader *loader, const uint32_t *arguments)
 {
     uint32_t address = arguments[0], size = arguments[1], type = arguments[2], pattern = arguments[3];
@@ -278,10 +377,12 @@ static enum refusal fill(struct loader *loader, const uint32_t *arguments)
         return NOT_ALIGNED;
     if (!grant(loader, LOAD_RIGHT, address, size, &place))
         return NOT_GRANTED;
-    for (uint32_t index = 0; index < size; index++)
-        loader->memory[place + index] = (uint8_t)(pattern >> (8 * (index & (unit - 1))));
+    if (section_is_too_much(loader, size))
+        return TOTAL_TOO_LARGE;
+    put_pattern(loader->memory + place, size, unit, pattern);
     for (unsigned index = 0; index < 4; index++)
         feed_checksum(loader, arguments[index], 32);
+    add_section(loader, size);
     return ACCEPTED;
 }
 
@@ -322,12 +423,21 @@ static enum refusal boot_table(struct loader *loader, const uint32_t *arguments)
     return ACCEPTED;
 }
 
-static enum refusal jump_and_close(struct loader *loader, uint32_t address)
+/* The two words that a DM648 has after the entry address. */
+static bool totals_are_right(const struct sections *sections, uint32_t section_total, uint32_t byte_total)
 {
+    return section_total == sections->count && byte_total == bytes_of(sections);
+}
+
+static enum refusal jump_and_close(struct loader *loader, const uint32_t *arguments)
+{
+    uint32_t address = arguments[0];
     size_t place;
 
     if (address % 4 != 0 || !grant(loader, ENTRY_RIGHT, address, 0, &place))
         return ENTRY_WRONG;
+    if (loader->dialect == PLAIN_DM648 && !totals_are_right(&loader->sections, arguments[1], arguments[2]))
+        return TOTALS_DIFFER;
     loader->ended = true;
     return ACCEPTED;
 }
@@ -359,6 +469,8 @@ static enum refusal flash_load(struct flash_run *run, const uint32_t *arguments,
 
     if (!grant(&run->loader, LOAD_RIGHT, address, size, &place))
         return NOT_GRANTED;
+    if (section_is_too_much(&run->loader, size))
+        return TOTAL_TOO_LARGE;
     padded = whole + (left_over != 0 ? WORD_BYTES : 0);
     if (run->length - after < padded)
         return IMAGE_TOO_SHORT;
@@ -370,6 +482,7 @@ static enum refusal flash_load(struct flash_run *run, const uint32_t *arguments,
         feed_checksum(&run->loader, read_word(data + index), 32);
     if (left_over != 0)
         feed_checksum(&run->loader, read_word(data + whole), 8 * left_over);
+    add_section(&run->loader, size);
     run->offset = after + padded;
     return ACCEPTED;
 }
@@ -383,6 +496,7 @@ static enum refusal flash_request(struct flash_run *run, const uint32_t *argumen
 
     run->loader.checksum = 0;
     if (matches) {
+        keep_sections(&run->loader.sections);
         run->offset = after;
         return ACCEPTED;
     }
@@ -390,6 +504,7 @@ static enum refusal flash_request(struct flash_run *run, const uint32_t *argumen
         return CHECKSUM_DIFFERS;
     if (target % WORD_BYTES != 0 || target < WORD_BYTES || target >= run->offset)
         return SEEK_WRONG;
+    drop_sections(&run->loader.sections);
     run->retries++;
     run->offset = target;
     return ACCEPTED;
@@ -404,9 +519,10 @@ static enum refusal flash_simple(struct loader *loader, enum command command, co
     case BOOT_TABLE:
         return boot_table(loader, arguments);
     case JUMP_AND_CLOSE:
-        return jump_and_close(loader, arguments[0]);
+        return jump_and_close(loader, arguments);
     case ENABLE:
         enable(loader);
+        keep_sections(&loader->sections);
         return ACCEPTED;
     case DISABLE:
         disable(loader);
@@ -430,7 +546,7 @@ static enum refusal flash_command(struct flash_run *run)
     refusal = find_command(fetch_word(run, run->offset), PLAIN_FLASH, &command);
     if (refusal != ACCEPTED)
         return refusal;
-    argument_count = (unsigned)argument_words(PLAIN_FLASH, command);
+    argument_count = argument_words(run->loader.dialect, PLAIN_FLASH, command);
     for (unsigned index = 0; index < argument_count; index++, after += WORD_BYTES) {
         if (run->length - after < WORD_BYTES)
             return IMAGE_TOO_SHORT;
@@ -461,11 +577,14 @@ static enum refusal flash_opening(struct flash_run *run, const uint8_t *map, siz
     return ACCEPTED;
 }
 
-uint64_t plain_flash_run(const uint8_t *map, size_t map_length, uint8_t *memory, size_t memory_length,
-                         const uint8_t *image, size_t image_length, uint8_t limit)
+static uint64_t run_in(unsigned dialect, const uint8_t *map, size_t map_length, uint8_t *memory, size_t memory_length,
+                       const uint8_t *image, size_t image_length, uint8_t limit)
 {
-    struct flash_run run = {
-        .loader = {.memory = memory}, .image = image, .length = image_length, .offset = WORD_BYTES, .limit = limit};
+    struct flash_run run = {.loader = {.dialect = dialect, .memory = memory},
+                            .image = image,
+                            .length = image_length,
+                            .offset = WORD_BYTES,
+                            .limit = limit};
     enum refusal refusal = flash_opening(&run, map, map_length);
     size_t last_offset = 0;
 
@@ -476,8 +595,21 @@ uint64_t plain_flash_run(const uint8_t *map, size_t map_length, uint8_t *memory,
         refusal = flash_command(&run);
     }
     plain_fetched = run.fetched;
+    free(run.loader.sections.bytes);
     return (uint64_t)refusal << 56 | (uint64_t)run.retries << 48 | (uint64_t)(last_offset / 4) << 32 |
            run.loader.checksum;
+}
+
+uint64_t plain_flash_run(const uint8_t *map, size_t map_length, uint8_t *memory, size_t memory_length,
+                         const uint8_t *image, size_t image_length, uint8_t limit)
+{
+    return run_in(PLAIN_AM17XX, map, map_length, memory, memory_length, image, image_length, limit);
+}
+
+uint64_t plain_dm648_run(const uint8_t *map, size_t map_length, uint8_t *memory, size_t memory_length,
+                         const uint8_t *image, size_t image_length, uint8_t limit)
+{
+    return run_in(PLAIN_DM648, map, map_length, memory, memory_length, image, image_length, limit);
 }
 
 /* ---- Sent mode ---- */
@@ -518,8 +650,11 @@ static enum refusal sent_load(struct sent_session *session)
 
     if (!grant(&session->loader, LOAD_RIGHT, address, size, &session->load_place))
         return NOT_GRANTED;
+    if (section_is_too_much(&session->loader, size))
+        return TOTAL_TOO_LARGE;
     feed_checksum(&session->loader, address, 32);
     feed_checksum(&session->loader, size, 32);
+    add_section(&session->loader, size);
     session->load_left = size;
     if (size != 0)
         session->awaiting = AWAITING_DATA;
@@ -561,6 +696,18 @@ static void sent_echo(struct sent_session *session, uint32_t word, struct reply 
         session->awaiting = AWAITING_OPCODE;
 }
 
+/* A DM648 says that it enters. */
+static enum refusal sent_close(struct sent_session *session, struct reply *reply)
+{
+    enum refusal refusal = jump_and_close(&session->loader, session->arguments);
+
+    if (refusal == ACCEPTED && session->loader.dialect == PLAIN_DM648) {
+        memcpy(reply->bytes + reply->count, "DONE", 4);
+        reply->count += 4;
+    }
+    return refusal;
+}
+
 /* Does a command whose last argument word has come. */
 static enum refusal sent_perform(struct sent_session *session, struct reply *reply)
 {
@@ -572,7 +719,7 @@ static enum refusal sent_perform(struct sent_session *session, struct reply *rep
     case BOOT_TABLE:
         return boot_table(&session->loader, session->arguments);
     case JUMP_AND_CLOSE:
-        return jump_and_close(&session->loader, session->arguments[0]);
+        return sent_close(session, reply);
     case ENABLE:
         enable(&session->loader);
         return ACCEPTED;
@@ -596,7 +743,7 @@ static enum refusal sent_perform_when_complete(struct sent_session *session, str
 {
     enum refusal refusal;
 
-    if (session->argument_count < (unsigned)argument_words(session->line, session->command)) {
+    if (session->argument_count < argument_words(session->loader.dialect, session->line, session->command)) {
         session->awaiting = AWAITING_ARGUMENT;
         return ACCEPTED;
     }
@@ -613,6 +760,7 @@ static enum refusal sent_opcode(struct sent_session *session, uint32_t opcode, s
 
     if (refusal != ACCEPTED)
         return refusal;
+    judge_sections(&session->loader.sections, session->command);
     session->acknowledged = true;
     session->argument_count = 0;
     reply_word(reply, (opcode & 0x00FFFFFF) | (uint32_t)0x52 << 24);
@@ -702,11 +850,11 @@ static size_t greet(unsigned line, uint8_t *room)
     return GREETING_LENGTH;
 }
 
-static uint64_t session_on(unsigned line, const uint8_t *map, size_t map_length, uint8_t *memory,
+static uint64_t session_on(unsigned dialect, unsigned line, const uint8_t *map, size_t map_length, uint8_t *memory,
                            size_t memory_length, const uint8_t *fed, size_t fed_length, uint8_t *room,
                            size_t room_length)
 {
-    struct sent_session session = {.loader = {.memory = memory}, .line = line};
+    struct sent_session session = {.loader = {.dialect = dialect, .memory = memory}, .line = line};
     enum refusal first_refusal = sent_opening(&session, map, map_length, memory_length, fed_length, room_length);
     size_t count;
 
@@ -722,17 +870,28 @@ static uint64_t session_on(unsigned line, const uint8_t *map, size_t map_length,
         for (unsigned place = 0; place < reply.count; place++)
             room[count++] = reply.bytes[place];
     }
+    free(session.loader.sections.bytes);
     return (uint64_t)first_refusal << 32 | count;
 }
 
 uint64_t plain_sent_session(const uint8_t *map, size_t map_length, uint8_t *memory, size_t memory_length,
                             const uint8_t *fed, size_t fed_length, uint8_t *room, size_t room_length)
 {
-    return session_on(PLAIN_BYTES, map, map_length, memory, memory_length, fed, fed_length, room, room_length);
+    return session_on(PLAIN_AM17XX, PLAIN_BYTES, map, map_length, memory, memory_length, fed, fed_length, room,
+                      room_length);
 }
 
 uint64_t plain_half_session(const uint8_t *map, size_t map_length, uint8_t *memory, size_t memory_length,
                             const uint8_t *fed, size_t fed_length, uint8_t *room, size_t room_length)
 {
-    return session_on(PLAIN_HALVES, map, map_length, memory, memory_length, fed, fed_length, room, room_length);
+    return session_on(PLAIN_AM17XX, PLAIN_HALVES, map, map_length, memory, memory_length, fed, fed_length, room,
+                      room_length);
+}
+
+uint64_t plain_dm648_session(uint8_t line, const uint8_t *map, size_t map_length, uint8_t *memory, size_t memory_length,
+                             const uint8_t *fed, size_t fed_length, uint8_t *room, size_t room_length)
+{
+    if (line != PLAIN_BYTES && line != PLAIN_HALVES)
+        return (uint64_t)CALL_WRONG << 32;
+    return session_on(PLAIN_DM648, line, map, map_length, memory, memory_length, fed, fed_length, room, room_length);
 }

@@ -6,11 +6,15 @@
 #include <stdint.h>
 
 enum { PLAIN_BYTES, PLAIN_HALVES, PLAIN_FLASH, PLAIN_MODES }; /* sent by bytes, sent by halves, flash */
+enum { PLAIN_AM17XX, PLAIN_DM648, PLAIN_DIALECTS };
 enum { PLAIN_JUMP_AND_CLOSE = 4, PLAIN_COMMANDS = 10 };
 
-/* How many commands of each kind were accepted so far in each mode, and what modes and kinds are called. */
-extern uint64_t plain_accepted[PLAIN_MODES][PLAIN_COMMANDS];
-extern uint64_t plain_accepted_over_seam[PLAIN_MODES][PLAIN_COMMANDS]; /* those whose range lies in several windows */
+typedef uint64_t plain_counts[PLAIN_DIALECTS][PLAIN_MODES][PLAIN_COMMANDS];
+
+/* How many commands of each kind were accepted so far in each dialect and mode, and what all of these are called. */
+extern plain_counts plain_accepted;
+extern plain_counts plain_accepted_over_seam; /* those whose range lies in several windows */
+const char *plain_dialect_name(unsigned dialect);
 const char *plain_mode_name(unsigned mode);
 const char *plain_command_name(unsigned kind);
 
@@ -23,12 +27,17 @@ int plain_command_allowed(unsigned mode, unsigned kind);
 /* Whether a kind writes a range of memory: Load, Fill and Boot Table. */
 int plain_command_writes(unsigned kind);
 
-/* The same calls, with the same answers, as ais_sent_session, ais_half_session and ais_flash_run in ais.h. */
+/* The same calls, with the same answers, as ais_sent_session, ais_half_session, ais_flash_run, ais_dm648_session and
+   ais_dm648_run in ais.h. */
 uint64_t plain_sent_session(const uint8_t *map, size_t map_length, uint8_t *memory, size_t memory_length,
                             const uint8_t *fed, size_t fed_length, uint8_t *room, size_t room_length);
 uint64_t plain_half_session(const uint8_t *map, size_t map_length, uint8_t *memory, size_t memory_length,
                             const uint8_t *fed, size_t fed_length, uint8_t *room, size_t room_length);
 uint64_t plain_flash_run(const uint8_t *map, size_t map_length, uint8_t *memory, size_t memory_length,
+                         const uint8_t *image, size_t image_length, uint8_t limit);
+uint64_t plain_dm648_session(uint8_t line, const uint8_t *map, size_t map_length, uint8_t *memory, size_t memory_length,
+                             const uint8_t *fed, size_t fed_length, uint8_t *room, size_t room_length);
+uint64_t plain_dm648_run(const uint8_t *map, size_t map_length, uint8_t *memory, size_t memory_length,
                          const uint8_t *image, size_t image_length, uint8_t limit);
 
 #endif

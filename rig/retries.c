@@ -1,11 +1,15 @@
 /* Shows through the C call that an abandoned attempt leaves no trace once what it wrote is written again.
 
    retries COUNT SEED [FIRST] runs COUNT cases of the seed, from case FIRST on, those of even numbers by bytes
-   and those of odd numbers by halves. A case is a map, a memory and the bytes of a prefix, an attempt, the commands that follow it and a continuation. They are fed with the
-   attempt and without it, and memory, refusal and all replies from the attempt's close on have to agree.
+   and those of odd numbers by halves, two for the AM17xx and two for the DM648 in turns. A case is a map, a memory
+   and the bytes of a prefix, an attempt, the commands that follow it and a continuation. They are fed with the
+   attempt and without it, and memory, refusal and all replies from the attempt's close on have to agree. So they
+   have where a Jump & Close comes next, by which a DM648 shows its totals: those that the case should have are
+   taken, and others are 17.
    Then one bit that the attempt wrote is left out of the following commands, and memory has to differ in the
-   bits left out, wherever the attempt changed them, and in no others. It ends with status 1 at the first
-   failure, or (unless FIRST is given) when too little was met. */
+   bits left out, wherever the attempt changed them, and in no others. And where a Request ends the prefix, a
+   Start-Over alone, which is no attempt, has to leave its trace in the totals of a DM648. It ends with status 1 at
+   the first failure, or (unless FIRST is given) when too little was met. */
 #include "ais.h"
 #include "cases.h"
 
@@ -18,7 +22,7 @@
 enum { FED_LIMIT = 65536, GREETING_LENGTH = 6, COMMAND_LIMIT = 512, ATTEMPT_LIMIT = 6, LOAD_LIMIT = 40 };
 enum kind { LOAD, FILL, SETTING, KINDS };
 enum setting { BYTE_SETTING, HALF_SETTING, WORD_SETTING, FIELD_SETTING, OTHER_FIELD_SETTING };
-enum beginning { AFTER_START_WORD, AFTER_ENABLE, AFTER_REQUEST, AFTER_START_OVER, BEGINNINGS };
+enum beginning { AFTER_START_WORD, AFTER_ENABLE, AFTER_REQUEST, AFTER_START_OVER, AFTER_NO_SECTION, BEGINNINGS };
 
 /* A command that writes memory; its data is drawn when it is written down. */
 struct command {
@@ -41,7 +45,11 @@ struct retry_case {
     struct writer attempt; /* with its close */
     struct writer following;
     struct writer continuation;
+    struct writer closing; /* a Jump & Close with the totals of a session that never had the attempt */
+    struct writer wrong_closing;
+    bool has_closing; /* some window has an entry address */
     bool has_halves;
+    bool is_dm648;
     enum beginning beginning;
     bool is_checked; /* the checksum is on when the attempt begins */
     bool has_request;
@@ -62,6 +70,7 @@ struct outcome {
 struct tally {
     uint64_t beginnings[BEGINNINGS];
     uint64_t by_halves;
+    uint64_t for_dm648;
     uint64_t checked;
     uint64_t empty;
     uint64_t with_request;
@@ -72,6 +81,10 @@ struct tally {
     uint64_t uncovered_single; /* exactly one */
     uint64_t uncovered_seen;   /* the bit left out had been changed, and memory differs there */
     uint64_t uncovered_same;   /* the bit left out had been written as it was */
+    uint64_t closed[2];        /* entered by the closing, in each dialect */
+    uint64_t counted;          /* and of a DM648's, those with a section in the attempt */
+    uint64_t no_attempt;       /* a Start-Over alone directly after a Request */
+    uint64_t traced;           /* and of these, those that a DM648 saw */
 };
 
 static struct outcome before, after, with, without;
@@ -366,6 +379,34 @@ static void write_prefix_command(struct writer *writer)
     }
 }
 
+/* What leaves register and totals as they are: a setting, a Ping or a Disable. It settles a Request all the same. */
+static void write_no_section(struct writer *writer)
+{
+    struct commands settings = {.count = 0};
+
+    if (chance(&writer->random, 60))
+        add_some_setting(&settings, writer);
+    write_commands(writer, &settings);
+    if (settings.count == 0 && chance(&writer->random, 50))
+        write_ping(writer, random_below(&writer->random, 3));
+    else if (settings.count == 0)
+        write_switch(writer, OPCODE_DISABLE);
+}
+
+/* The last opcode before an attempt, or the last but for one that loads nothing. */
+static void write_beginning(struct writer *writer, enum beginning beginning)
+{
+    static const uint32_t last[] = {OPCODE_ENABLE, OPCODE_REQUEST, OPCODE_START_OVER};
+    uint32_t opcode = beginning == AFTER_NO_SECTION ? PICK(&writer->random, last) : last[beginning - AFTER_ENABLE];
+
+    if (opcode == OPCODE_REQUEST)
+        write_sent_request(writer);
+    else
+        write_switch(writer, opcode);
+    if (beginning == AFTER_NO_SECTION)
+        write_no_section(writer);
+}
+
 /* Ends where an attempt begins. Bytes before the start word are ignored, and it may come several times. */
 static void write_prefix(struct retry_case *retry_case)
 {
@@ -383,10 +424,7 @@ static void write_prefix(struct retry_case *retry_case)
         write_switch(writer, chance(random, 80) ? OPCODE_ENABLE : OPCODE_DISABLE);
     for (unsigned count = random_below(random, 6); count > 0; count--)
         write_prefix_command(writer);
-    if (retry_case->beginning == AFTER_REQUEST)
-        write_sent_request(writer);
-    else
-        write_switch(writer, retry_case->beginning == AFTER_ENABLE ? OPCODE_ENABLE : OPCODE_START_OVER);
+    write_beginning(writer, retry_case->beginning);
 }
 
 static void write_attempt(struct retry_case *retry_case)
@@ -398,7 +436,9 @@ static void write_attempt(struct retry_case *retry_case)
     while (count-- > 0)
         add_some_command(&retry_case->attempted, writer);
     write_commands(writer, &retry_case->attempted);
-    retry_case->has_request = chance(&writer->random, 40);
+    /* A Start-Over alone directly after a Request is no attempt. */
+    retry_case->has_request = chance(&writer->random, 40) ||
+                              (retry_case->attempted.count == 0 && retry_case->beginning == AFTER_REQUEST);
     if (retry_case->has_request)
         write_sent_request(writer);
     write_switch(writer, OPCODE_START_OVER);
@@ -443,6 +483,23 @@ static void write_continuation(struct writer *writer)
         writer->length -= writer->length % 2;
 }
 
+/* Jump & Close with the totals that the commands before it come to, and with one of them a little off. */
+static void write_closings(struct retry_case *retry_case)
+{
+    struct writer *closing = &retry_case->closing, *wrong = &retry_case->wrong_closing;
+    uint32_t address = 0, size;
+    struct totals totals;
+
+    retry_case->has_closing = choose_range(closing, ENTRY_RIGHT, 4, 4, &address, &size);
+    write_jump_and_close(closing, address);
+    totals = wrong->loaded.now;
+    if (chance(&wrong->random, 50))
+        totals.sections += chance(&wrong->random, 50) ? 1 : -1;
+    else
+        totals.bytes += chance(&wrong->random, 50) ? 1 : -1;
+    write_close_with(wrong, address, totals);
+}
+
 static bool may_be_written(const struct map *map)
 {
     for (unsigned index = 0; index < map->count; index++)
@@ -451,10 +508,13 @@ static bool may_be_written(const struct map *map)
     return false;
 }
 
-static void begin_part(struct retry_case *retry_case, struct writer *writer, uint64_t part)
+/* A part goes on with what the part before it has loaded; the attempt is before none. */
+static void begin_part(struct retry_case *retry_case, struct writer *writer, uint64_t part, const struct writer *earlier)
 {
     writer->random = random_from(retry_case->seed ^ part << 56, retry_case->number);
-    begin_script(writer, &retry_case->map, false, retry_case->has_halves);
+    begin_script(writer, &retry_case->map, false, retry_case->has_halves, retry_case->is_dm648);
+    if (earlier != NULL)
+        writer->loaded = earlier->loaded;
 }
 
 static void make_retry_case(struct retry_case *retry_case, uint64_t seed, uint64_t number)
@@ -465,6 +525,7 @@ static void make_retry_case(struct retry_case *retry_case, uint64_t seed, uint64
     retry_case->seed = seed;
     retry_case->number = number;
     retry_case->has_halves = number % 2 != 0;
+    retry_case->is_dm648 = number / 2 % 2 != 0;
     do {
         if (is_large)
             make_large_map(&random, &retry_case->map);
@@ -473,20 +534,37 @@ static void make_retry_case(struct retry_case *retry_case, uint64_t seed, uint64
     } while (!may_be_written(&retry_case->map));
     retry_case->memory_length = (size_t)map_sum(&retry_case->map);
     random_bytes(&random, retry_case->memory, retry_case->memory_length);
-    begin_part(retry_case, &retry_case->prefix, 1);
+    begin_part(retry_case, &retry_case->prefix, 1, NULL);
     write_prefix(retry_case);
     retry_case->is_checked = retry_case->prefix.checksum_on;
-    begin_part(retry_case, &retry_case->attempt, 2);
+    begin_part(retry_case, &retry_case->attempt, 2, NULL);
     write_attempt(retry_case);
-    begin_part(retry_case, &retry_case->following, 3);
+    begin_part(retry_case, &retry_case->following, 3, &retry_case->prefix);
     write_following(retry_case);
-    begin_part(retry_case, &retry_case->continuation, 4);
+    begin_part(retry_case, &retry_case->continuation, 4, &retry_case->following);
     write_continuation(&retry_case->continuation);
+    begin_part(retry_case, &retry_case->closing, 6, &retry_case->following);
+    begin_part(retry_case, &retry_case->wrong_closing, 7, &retry_case->following);
+    write_closings(retry_case);
     collect_bits(&retry_case->map, &retry_case->attempted, retry_case->attempt_bits, retry_case->memory_length);
     collect_bits(&retry_case->map, &retry_case->repeated, retry_case->following_bits, retry_case->memory_length);
 }
 
 /* ---- Feeding ---- */
+
+static void run_session(const struct retry_case *retry_case, struct outcome *outcome, const uint8_t *fed, size_t length)
+{
+    const struct map *map = &retry_case->map;
+    size_t memory_length = retry_case->memory_length, room_length = GREETING_LENGTH + 2 * length;
+
+    memcpy(outcome->memory, retry_case->memory, memory_length);
+    if (retry_case->is_dm648)
+        outcome->value = ais_dm648_session(retry_case->has_halves, map->bytes, map->length, outcome->memory,
+                                           memory_length, fed, length, outcome->room, room_length);
+    else
+        outcome->value = (retry_case->has_halves ? ais_half_session : ais_sent_session)(
+            map->bytes, map->length, outcome->memory, memory_length, fed, length, outcome->room, room_length);
+}
 
 /* Feeds the prefix and the other parts that are given, one after another, to a new session. */
 static void feed(const struct retry_case *retry_case, struct outcome *outcome, const struct writer *attempt,
@@ -506,10 +584,7 @@ static void feed(const struct retry_case *retry_case, struct outcome *outcome, c
         memcpy(fed + length, parts[index]->bytes, parts[index]->length);
         length += parts[index]->length;
     }
-    memcpy(outcome->memory, retry_case->memory, retry_case->memory_length);
-    outcome->value = (retry_case->has_halves ? ais_half_session : ais_sent_session)(
-        retry_case->map.bytes, retry_case->map.length, outcome->memory, retry_case->memory_length, fed, length,
-        outcome->room, GREETING_LENGTH + 2 * length);
+    run_session(retry_case, outcome, fed, length);
 }
 
 static uint32_t reply_count(const struct outcome *outcome)
@@ -594,6 +669,7 @@ static bool leaves_no_trace(const struct retry_case *retry_case, struct tally *t
     feed(retry_case, &without, NULL, &retry_case->following, &retry_case->continuation);
     tally->beginnings[retry_case->beginning]++;
     tally->by_halves += retry_case->has_halves;
+    tally->for_dm648 += retry_case->is_dm648;
     tally->checked += retry_case->is_checked;
     tally->empty += retry_case->attempted.count == 0;
     tally->with_request += retry_case->has_request;
@@ -604,6 +680,65 @@ static bool leaves_no_trace(const struct retry_case *retry_case, struct tally *t
     tally->changed += memcmp(before.memory, after.memory, length) != 0;
     tally->refused += refusal_of(&with) != 0;
     return same_replies() && expect(memcmp(with.memory, without.memory, length) == 0, "the same memory at the end");
+}
+
+/* The session ended by entering: the acknowledgement came, from a DM648 also DONE, and nothing was refused. */
+static bool has_entered(const struct retry_case *retry_case, const struct outcome *outcome)
+{
+    const uint8_t *room = outcome->room + reply_count(outcome);
+
+    if (refusal_of(outcome) != 0)
+        return false;
+    if (!retry_case->is_dm648)
+        return memcmp(room - 4, "\x06\x59\x53\x52", 4) == 0;
+    return memcmp(room - 8, "\x06\x59\x53\x52" "DONE", 8) == 0;
+}
+
+static bool has_section(const struct commands *commands)
+{
+    for (unsigned index = 0; index < commands->count; index++)
+        if (commands->list[index].kind != SETTING)
+            return true;
+    return false;
+}
+
+/* A Jump & Close directly after what follows: with the totals that should stand it is taken, with others only by the
+   AM17xx, which has none, and the attempt makes no difference. */
+static bool closes_as_expected(const struct retry_case *retry_case, struct tally *tally)
+{
+    if (!retry_case->has_closing)
+        return true;
+    feed(retry_case, &with, &retry_case->attempt, &retry_case->following, &retry_case->closing);
+    feed(retry_case, &without, NULL, &retry_case->following, &retry_case->closing);
+    if (!same_replies() || !expect(has_entered(retry_case, &without), "the totals that should stand are taken"))
+        return false;
+    tally->closed[retry_case->is_dm648]++;
+    tally->counted += retry_case->is_dm648 && has_section(&retry_case->attempted);
+    feed(retry_case, &with, &retry_case->attempt, &retry_case->following, &retry_case->wrong_closing);
+    feed(retry_case, &without, NULL, &retry_case->following, &retry_case->wrong_closing);
+    return same_replies() &&
+           expect(refusal_of(&without) == (retry_case->is_dm648 ? 17 : 0), "wrong totals are 17, for a DM648 only");
+}
+
+/* A Start-Over alone directly after a Request takes back what stands before that Request. A DM648 shows it where there
+   is any: the totals that should stand are 17. */
+static bool traces_where_it_should(struct retry_case *retry_case, struct tally *tally)
+{
+    static struct writer start_over;
+    const struct loaded *loaded = &retry_case->prefix.loaded;
+    bool is_traced = retry_case->is_dm648 && memcmp(&loaded->now, &loaded->kept, sizeof loaded->now) != 0;
+
+    if (!retry_case->has_closing || retry_case->beginning != AFTER_REQUEST)
+        return true;
+    begin_part(retry_case, &start_over, 8, NULL);
+    write_switch(&start_over, OPCODE_START_OVER);
+    feed(retry_case, &with, &start_over, &retry_case->following, &retry_case->closing);
+    feed(retry_case, &without, NULL, &retry_case->following, &retry_case->closing);
+    tally->no_attempt++;
+    tally->traced += is_traced;
+    return expect(memcmp(with.memory, without.memory, retry_case->memory_length) == 0, "memory has no trace of it") &&
+           expect(has_entered(retry_case, &without), "without it the totals are taken") &&
+           expect(refusal_of(&with) == (is_traced ? 17 : 0), "with it they are 17 where sections were taken back");
 }
 
 /* Chooses a bit that the attempt wrote, or changed; false where there is none. */
@@ -652,7 +787,7 @@ static bool leaves_the_uncovered_bit(struct retry_case *retry_case, struct tally
     unsigned bit;
     bool was_changed, is_seen;
 
-    begin_part(retry_case, &following, 5);
+    begin_part(retry_case, &following, 5, NULL);
     if (!choose_bit(retry_case, &following.random, &offset, &bit))
         return true;
     commands.count = 0;
@@ -676,12 +811,14 @@ static bool leaves_the_uncovered_bit(struct retry_case *retry_case, struct tally
 
 static void print_tally(const struct tally *tally)
 {
-    static const char *const names[] = {"the start unit", "an Enable", "a Request", "a Start-Over"};
+    static const char *const names[] = {"the start unit", "an Enable", "a Request", "a Start-Over",
+                                        "one, and no section"};
     static const char *const kinds[] = {"loads", "fills", "settings"};
 
     for (unsigned index = 0; index < BEGINNINGS; index++)
         printf("attempts after %-24s%10" PRIu64 "\n", names[index], tally->beginnings[index]);
     printf("%-39s%10" PRIu64 "\n", "attempts by halves, the others by bytes", tally->by_halves);
+    printf("%-39s%10" PRIu64 "\n", "attempts on a DM648, the others AM17xx", tally->for_dm648);
     printf("%-39s%10" PRIu64 "\n", "attempts with the checksum on", tally->checked);
     printf("%-39s%10" PRIu64 "\n", "attempts with no command", tally->empty);
     printf("%-39s%10" PRIu64 "\n", "attempts with a Request", tally->with_request);
@@ -693,13 +830,21 @@ static void print_tally(const struct tally *tally)
     printf("%-39s%10" PRIu64 "\n", "  exactly one", tally->uncovered_single);
     printf("%-39s%10" PRIu64 "\n", "  changed, and the difference seen", tally->uncovered_seen);
     printf("%-39s%10" PRIu64 "\n", "  written as it was, and no difference", tally->uncovered_same);
+    printf("%-39s%10" PRIu64 "\n", "closed and entered, AM17xx", tally->closed[0]);
+    printf("%-39s%10" PRIu64 "\n", "closed and entered, DM648", tally->closed[1]);
+    printf("%-39s%10" PRIu64 "\n", "  with sections in the attempt", tally->counted);
+    printf("%-39s%10" PRIu64 "\n", "a Start-Over alone after a Request", tally->no_attempt);
+    printf("%-39s%10" PRIu64 "\n", "  and its trace seen", tally->traced);
 }
 
-/* Every beginning, every kind over a seam, and a difference seen in a tenth of the cases. */
+/* Every beginning, every kind over a seam, a difference seen in a tenth of the cases, totals that an attempt could have
+   spoilt in another tenth, and the trace of what is no attempt in a fiftieth. */
 static bool enough_met(const struct tally *tally, uint64_t count)
 {
-    bool is_met = tally->by_halves > 0 && tally->empty > 0 && tally->with_request > 0 && tally->uncovered_seen >= count / 10;
+    bool is_met = tally->by_halves > 0 && tally->for_dm648 > 0 && tally->empty > 0 && tally->with_request > 0;
 
+    is_met &= tally->uncovered_seen >= count / 10 && tally->closed[0] >= count / 10;
+    is_met &= tally->counted >= count / 10 && tally->traced >= count / 50 && tally->no_attempt > tally->traced;
     for (unsigned index = 0; index < BEGINNINGS; index++)
         is_met &= tally->beginnings[index] > 0;
     for (unsigned kind = 0; kind < KINDS; kind++)
@@ -718,7 +863,8 @@ int main(int argument_count, char **arguments)
 
     for (uint64_t number = first; number < first + count; number++) {
         make_retry_case(&retry_case, seed, number);
-        if (!leaves_no_trace(&retry_case, &tally) || !leaves_the_uncovered_bit(&retry_case, &tally)) {
+        if (!leaves_no_trace(&retry_case, &tally) || !closes_as_expected(&retry_case, &tally) ||
+            !leaves_the_uncovered_bit(&retry_case, &tally) || !traces_where_it_should(&retry_case, &tally)) {
             printf("FAILURE: to see it again: retries 1 %" PRIu64 " %" PRIu64 "\n", seed, number);
             return 1;
         }

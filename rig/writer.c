@@ -127,10 +127,51 @@ static void clear_checksum(struct writer *writer)
         writer->marks[index].checksum = 0;
 }
 
+/* ---- The totals of what was written ---- */
+
+static struct totals sum_of(struct totals left, struct totals right)
+{
+    return (struct totals){left.sections + right.sections, left.bytes + right.bytes};
+}
+
+static void count_section(struct writer *writer, uint32_t size)
+{
+    struct totals one = {1, size};
+
+    writer->loaded.now = sum_of(writer->loaded.now, one);
+    for (unsigned index = 0; index < writer->mark_count; index++)
+        writer->marks[index].since = sum_of(writer->marks[index].since, one);
+}
+
+/* What an opcode does to the totals before its command is done. A Request on the line leaves open what a retry keeps. */
+static void turn_totals(struct writer *writer, uint32_t opcode)
+{
+    struct loaded *loaded = &writer->loaded;
+
+    if (opcode == OPCODE_START_OVER)
+        loaded->now = loaded->kept;
+    if (opcode == OPCODE_ENABLE || loaded->has_requested)
+        loaded->kept = loaded->now;
+    loaded->has_requested = opcode == OPCODE_REQUEST && !writer->is_flash;
+}
+
+/* A Request of an image that matches, at once or when all since a mark was loaded again. */
+static void match_totals(struct writer *writer, uint32_t expected, uint32_t target)
+{
+    struct loaded *loaded = &writer->loaded;
+
+    for (unsigned index = 0; index < writer->mark_count && expected != writer->checksum; index++)
+        if (writer->marks[index].offset == target && writer->marks[index].checksum == expected)
+            loaded->now = sum_of(loaded->kept, writer->marks[index].since);
+    loaded->kept = loaded->now;
+}
+
 /* ---- Scripts ---- */
 
-void begin_script(struct writer *writer, const struct map *map, bool is_flash, bool has_halves)
+void begin_script(struct writer *writer, const struct map *map, bool is_flash, bool has_halves, bool is_dm648)
 {
+    writer->is_dm648 = is_dm648;
+    memset(&writer->loaded, 0, sizeof writer->loaded);
     writer->map = map;
     writer->is_flash = is_flash;
     writer->has_halves = has_halves;
@@ -172,6 +213,7 @@ void write_mark(struct writer *writer)
     if (writer->mark_count < MARK_LIMIT) {
         writer->marks[writer->mark_count].offset = writer->length;
         writer->marks[writer->mark_count].checksum = 0;
+        writer->marks[writer->mark_count].since = (struct totals){0, 0};
         writer->mark_count++;
     }
 }
@@ -187,11 +229,18 @@ void write_load_data(struct writer *writer, uint32_t size)
     }
 }
 
+static void write_opcode(struct writer *writer, uint32_t opcode)
+{
+    write_word(writer, opcode);
+    turn_totals(writer, opcode);
+}
+
 void write_load(struct writer *writer, uint32_t address, uint32_t size)
 {
-    write_word(writer, OPCODE_LOAD);
+    write_opcode(writer, OPCODE_LOAD);
     write_word(writer, address);
     write_word(writer, size);
+    count_section(writer, size);
     cover(writer, address, 32);
     cover(writer, size, 32);
     write_load_data(writer, size);
@@ -201,16 +250,25 @@ void write_fill(struct writer *writer, uint32_t address, uint32_t size, uint32_t
 {
     const uint32_t arguments[] = {address, size, type, pattern};
 
-    write_word(writer, OPCODE_FILL);
+    write_opcode(writer, OPCODE_FILL);
+    count_section(writer, size);
     for (unsigned index = 0; index < 4; index++) {
         write_word(writer, arguments[index]);
         cover(writer, arguments[index], 32);
     }
 }
 
+/* A fill by words: the pattern is what the register would hold after 32 bits of zeros, so that the two cancel out. */
+void write_vanishing_fill(struct writer *writer, uint32_t address, uint32_t size)
+{
+    uint32_t covered = divide(divide(divide(0, address, 32), size, 32), 2, 32);
+
+    write_fill(writer, address, size, 2, divide(covered, 0, 32));
+}
+
 void write_setting(struct writer *writer, uint32_t type, uint32_t address, uint32_t data, uint32_t delay)
 {
-    write_word(writer, OPCODE_BOOT_TABLE);
+    write_opcode(writer, OPCODE_BOOT_TABLE);
     write_word(writer, type);
     write_word(writer, address);
     write_word(writer, data);
@@ -219,7 +277,7 @@ void write_setting(struct writer *writer, uint32_t type, uint32_t address, uint3
 
 void write_switch(struct writer *writer, uint32_t opcode)
 {
-    write_word(writer, opcode);
+    write_opcode(writer, opcode);
     if (opcode == OPCODE_ENABLE)
         writer->checksum_on = true;
     if (opcode == OPCODE_DISABLE)
@@ -228,29 +286,39 @@ void write_switch(struct writer *writer, uint32_t opcode)
         clear_checksum(writer);
 }
 
+void write_close_with(struct writer *writer, uint32_t address, struct totals totals)
+{
+    write_opcode(writer, OPCODE_JUMP_AND_CLOSE);
+    write_word(writer, address);
+    if (!writer->is_dm648)
+        return;
+    write_word(writer, totals.sections);
+    write_word(writer, totals.bytes);
+}
+
 void write_jump_and_close(struct writer *writer, uint32_t address)
 {
-    write_word(writer, OPCODE_JUMP_AND_CLOSE);
-    write_word(writer, address);
+    write_close_with(writer, address, writer->loaded.now);
 }
 
 void write_sent_request(struct writer *writer)
 {
-    write_word(writer, OPCODE_REQUEST);
+    write_opcode(writer, OPCODE_REQUEST);
     clear_checksum(writer);
 }
 
 void write_flash_request(struct writer *writer, uint32_t expected, uint32_t seek)
 {
-    write_word(writer, OPCODE_REQUEST);
+    write_opcode(writer, OPCODE_REQUEST);
     write_word(writer, expected);
     write_word(writer, seek);
+    match_totals(writer, expected, (uint32_t)writer->length + seek);
     clear_checksum(writer);
 }
 
 void write_ping(struct writer *writer, uint32_t count)
 {
-    write_word(writer, OPCODE_PING);
+    write_opcode(writer, OPCODE_PING);
     write_word(writer, count);
     while (count-- > 0)
         write_word(writer, tricky_word(&writer->random));

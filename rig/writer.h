@@ -67,28 +67,45 @@ enum {
 
 enum { SCRIPT_LIMIT = 140000, MARK_LIMIT = 32 };
 
-/* A place where a command begins, and what the register would hold if it had been 0 there. */
+/* How many sections were loaded, and how many bytes they have. */
+struct totals {
+    uint32_t sections;
+    uint32_t bytes;
+};
+
+/* A place where a command begins, what the register would hold if it had been 0 there, and what was loaded since. */
 struct mark {
     size_t offset;
     uint32_t checksum;
+    struct totals since;
 };
 
-/* A script in the making. The checksum is what a loader has that accepts all of it. */
+/* What a DM648 has loaded: the totals that stand, those that a retry would leave, and whether the last opcode was a
+   Request on the line, after which a retry may still come. */
+struct loaded {
+    struct totals now;
+    struct totals kept;
+    bool has_requested;
+};
+
+/* A script in the making. The checksum and the totals are what a loader has that accepts all of it. */
 struct writer {
     struct random_source random;
     const struct map *map;
     bool is_flash;
     bool has_halves; /* sent by halves; a word is the same four bytes as by bytes */
+    bool is_dm648;   /* Jump & Close has the totals behind its address */
     uint8_t bytes[SCRIPT_LIMIT];
     size_t length;
     size_t first_word; /* where the words begin, after the start word */
     bool checksum_on;
     uint32_t checksum;
+    struct loaded loaded;
     struct mark marks[MARK_LIMIT];
     unsigned mark_count;
 };
 
-void begin_script(struct writer *writer, const struct map *map, bool is_flash, bool has_halves);
+void begin_script(struct writer *writer, const struct map *map, bool is_flash, bool has_halves, bool is_dm648);
 void write_byte(struct writer *writer, uint8_t byte);
 void write_word(struct writer *writer, uint32_t word);
 void write_unit(struct writer *writer, uint32_t unit); /* a byte, or a half, low byte first */
@@ -99,9 +116,11 @@ void write_mark(struct writer *writer);
 void write_load(struct writer *writer, uint32_t address, uint32_t size);
 void write_load_data(struct writer *writer, uint32_t size);
 void write_fill(struct writer *writer, uint32_t address, uint32_t size, uint32_t type, uint32_t pattern);
+void write_vanishing_fill(struct writer *writer, uint32_t address, uint32_t size); /* leaves a checksum of 0 at 0 */
 void write_setting(struct writer *writer, uint32_t type, uint32_t address, uint32_t data, uint32_t delay);
 void write_switch(struct writer *writer, uint32_t opcode); /* Enable, Disable, Start-Over, Sequential Read Enable */
-void write_jump_and_close(struct writer *writer, uint32_t address);
+void write_jump_and_close(struct writer *writer, uint32_t address); /* with the totals that stand */
+void write_close_with(struct writer *writer, uint32_t address, struct totals totals);
 void write_sent_request(struct writer *writer);
 void write_flash_request(struct writer *writer, uint32_t expected, uint32_t seek);
 void write_ping(struct writer *writer, uint32_t count);

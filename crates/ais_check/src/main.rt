@@ -1,7 +1,8 @@
-// The check program: reads an image on standard input and writes what becomes of it, in six lines.
+// The check program: reads an image on standard input and writes what becomes of it, in six lines. With an argument the image is a DM648's, else an AM17xx's.
 use checking::Report;
 use libc::STDIN_FILENO;
 use libc::STDOUT_FILENO;
+use script::Dialect;
 
 fn put(text: &[u8]) {
     io::write_all(STDOUT_FILENO, text);
@@ -55,9 +56,17 @@ fn put_report(report: Report) {
     put_number(b"retries=", report.retries as u32);
 }
 
+// The dialect that was asked for.
+fn asked() -> Dialect {
+    if os::arg_count() < 2 {
+        return Dialect::Am17xx;
+    }
+    Dialect::Dm648
+}
+
 // One byte more than the longest image is room enough: what is longer is refused however long.
 fn main() {
     let mut room = [0u8; 65537];
     let n = io::read_full(STDIN_FILENO, &mut room);
-    put_report(checking::check(&room[..n]));
+    put_report(checking::check(asked(), &room[..n]));
 }

@@ -15,6 +15,7 @@ fn main() {
     sessions::ping();
     sessions::retired();
     sessions::table();
+    sessions::closing_totals();
     texts::figures();
     texts::magic_word();
 }

@@ -1,4 +1,5 @@
 // Whole sent sessions: each word, what was replied to it, and the end.
+use script::Dialect;
 use sent::Answer;
 use sent::Reply;
 use sent::Session;
@@ -38,6 +39,12 @@ fn send_byte(session: Session, memory: &mut [u8], byte: u8) -> Answer {
     answer
 }
 
+// Two bytes, one after the other.
+fn send_two(session: Session, memory: &mut [u8], one: u8, other: u8) -> Answer {
+    let first = send_byte(session, memory, one);
+    send_byte(first.session, memory, other)
+}
+
 // One word, lowest byte first.
 fn send_word(session: Session, memory: &mut [u8], word: u32) -> Answer {
     let bytes = [
@@ -48,12 +55,10 @@ fn send_word(session: Session, memory: &mut [u8], word: u32) -> Answer {
     ];
     text::write(b"sent=");
     text::listed(&bytes);
-    let first = send_byte(session, memory, bytes[0]);
-    let second = send_byte(first.session, memory, bytes[1]);
-    let third = send_byte(second.session, memory, bytes[2]);
-    let fourth = send_byte(third.session, memory, bytes[3]);
+    let half = send_two(session, memory, bytes[0], bytes[1]);
+    let whole = send_two(half.session, memory, bytes[2], bytes[3]);
     text::write(b"\n");
-    fourth
+    whole
 }
 
 // Words one after the other.
@@ -69,9 +74,9 @@ fn send_words(begun: Answer, memory: &mut [u8], listed: &[u32]) -> Answer {
 }
 
 // Opens a session and sends the start word.
-fn start(name: &[u8], first: u32, memory: &mut [u8]) -> Answer {
+fn start(name: &[u8], dialect: Dialect, first: u32, memory: &mut [u8]) -> Answer {
     text::text_line(b"session=", name);
-    let opened = Session::open(1, runs::one_window(first));
+    let opened = Session::open(dialect, 1, runs::one_window(first));
     let reply = opened.reply;
     let bytes = reply.bytes;
     let letters = [bytes[0], bytes[1], bytes[2], bytes[3], bytes[4], bytes[5]];
@@ -106,7 +111,7 @@ fn show_end(last: Answer) {
 // A session of 01's window.
 fn run(name: &[u8], listed: &[u32]) {
     let mut memory = [0xEEu8; 4096];
-    let begun = start(name, 0x8000_0000, &mut memory);
+    let begun = start(name, Dialect::Am17xx, 0x8000_0000, &mut memory);
     let last = send_words(begun, &mut memory, listed);
     show_end(last);
     ends::show_memory(0x8000_0000, 0xEE, 16, &memory);
@@ -132,17 +137,48 @@ fn send_section(begun: Answer, memory: &mut [u8], listed: &[u32], expected: u32)
     asked
 }
 
-// Source 000's image: no magic word, no arguments to a Request, nothing after the entry address.
-fn send_table(begun: Answer, memory: &mut [u8]) -> Answer {
+// The sections of source 000's image: no magic word, no arguments to a Request.
+fn send_sections(begun: Answer, memory: &mut [u8]) -> Answer {
     let one = send_section(begun, memory, &images::TABLE[1..22], images::TABLE[22]);
-    let two = send_section(one, memory, &images::TABLE[24..31], images::TABLE[31]);
-    send_words(two, memory, &images::TABLE[33..35])
+    send_section(one, memory, &images::TABLE[24..31], images::TABLE[31])
 }
 
+// The whole image, nothing after the entry address.
 pub fn table() {
     let mut memory = [0xEEu8; 4096];
-    let begun = start(b"table-19", 0x1080_0000, &mut memory);
-    let last = send_table(begun, &mut memory);
+    let begun = start(b"table-19", Dialect::Am17xx, 0x1080_0000, &mut memory);
+    let loaded = send_sections(begun, &mut memory);
+    let last = send_words(loaded, &mut memory, &images::TABLE[33..35]);
     show_end(last);
     ends::show_memory(0x1080_0000, 0xEE, 80, &memory);
+}
+
+fn show_totals(last: Answer) {
+    let core = last.session.core;
+    let tally = core.tally;
+    let totals = tally.totals;
+    let now = totals.now;
+    let sections = now.sections;
+    let bytes = now.bytes;
+    text::number_line(b"sections=", sections.0 as u64);
+    text::number_line(b"bytes=", bytes.0 as u64);
+}
+
+// The same as its own boards take it: two totals after the entry address.
+fn close_with(name: &[u8], sections: u32, bytes: u32) {
+    let mut memory = [0xEEu8; 4096];
+    let begun = start(name, Dialect::Dm648, 0x1080_0000, &mut memory);
+    let loaded = send_sections(begun, &mut memory);
+    let close = [images::TABLE[33], images::TABLE[34], sections, bytes];
+    let last = send_words(loaded, &mut memory, &close);
+    show_end(last);
+    show_totals(last);
+    ends::show_memory(0x1080_0000, 0xEE, 80, &memory);
+}
+
+// The image's own totals, and one off in either.
+pub fn closing_totals() {
+    close_with(b"table-19-dm648", images::TABLE[35], images::TABLE[36]);
+    close_with(b"table-19-dm648-one-section-more", 3, 0x4C);
+    close_with(b"table-19-dm648-one-byte-less", 2, 0x4B);
 }

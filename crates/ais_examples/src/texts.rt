@@ -1,6 +1,7 @@
 // Figure 13 of source 000, a text: read into an image and written out again, and the image run; and what texts of one word leave in a room.
 use crate::cases;
 use checking::Report;
+use script::Dialect;
 use transcripts::ends;
 use transcripts::runs;
 use transcripts::runs::Flip;
@@ -40,7 +41,7 @@ fn figure(name: &[u8], digits: &[u8]) {
     turn(name, digits, &mut image, &mut back);
     let setting = cases::at_table(0, Flip::None, Flip::None);
     runs::run(name, b"clean", setting, &mut image);
-    show_check(name, checking::check(&image));
+    show_check(name, checking::check(Dialect::Am17xx, &image));
 }
 
 // Mended, and as printed.

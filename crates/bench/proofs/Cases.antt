@@ -11,13 +11,14 @@ use borrow.Author.Tests.{eq-eqb, ne-eqb, leb-true}
 use Rattle.words.proofs.Choice.{chosen, passed, both}
 use Rattle.windows.specs.Window.{sumOf}
 use Rattle.script.specs.Answers.{numberOf}
+use Rattle.script.specs.declared.Dialect.{Dialect}
 use Rattle.script.specs.declared.Refusal.the-variants as refusal
 use Rattle.sent.proofs.Units.{halves-count}
 use Rattle.sent.specs.Bus.{unitsFed}
 use Rattle.sent.specs.declared.Bus.{Bus}
 use Rattle.sent.specs.declared.Bus.the-variants.{Bytes, Halves}
 use Rattle.sent.specs.declared.Opened.{Opened}
-use Rattle.bench.specs.Feeding.{unfed, fedAll, greeted, unitBytes, mostFed, openingRoom, unitRoom, roomy, sessionFrom, tallied, laidIn}
+use Rattle.bench.specs.Feeding.{unfed, fedAll, greeted, unitBytes, mostFed, openingRoom, unitRoom, roomy, sessionFrom, sentSession, lineSession, tallied, laidIn}
 
 -- how many units lent bytes are
 pub units-count : (bus : Bus) (bytes : List ℕ) → length (unitsFed bus bytes) ≡ length bytes / unitBytes bus
@@ -61,3 +62,17 @@ module _ (bus : Bus) (o : Opened) (m bytes : List ℕ) (room : ℕ) where
       unfolding sessionFrom
       from-fed e =
           passed _ _ _ (ap not (eq-eqb _ _ opened)) ∙ passed _ _ _ (ap not (eq-eqb _ _ lent)) ∙ passed _ _ _ (ap not e)
+
+-- a session on the line of a number
+module _ (dialect : Dialect) (map m bytes room : List ℕ) (line : ℕ) where
+  pub on-bytes : line ≡ 0 → lineSession line dialect map m bytes room ≡ sentSession Bytes dialect map m bytes room
+  unfolding lineSession
+  on-bytes e = chosen _ _ _ (eq-eqb _ _ e)
+
+  pub on-halves : line ≢ 0 → line ≡ 1 → lineSession line dialect map m bytes room ≡ sentSession Halves dialect map m bytes room
+  unfolding lineSession
+  on-halves other e = passed _ _ _ (ne-eqb _ _ other) ∙ chosen _ _ _ (eq-eqb _ _ e)
+
+  pub on-none : line ≢ 0 → line ≢ 1 → lineSession line dialect map m bytes room ≡ unfed (numberOf refusal.Call) m
+  unfolding lineSession
+  on-none other e = passed _ _ _ (ne-eqb _ _ other) ∙ passed _ _ _ (ne-eqb _ _ e)

@@ -12,6 +12,7 @@ use Rattle.sent.specs.Bus.{unitsInWord, pushed}
 use Rattle.sent.specs.Lift.{EveryWord}
 use Rattle.sent.specs.Line.{Outcome, carried, unitStep}
 use Rattle.sent.specs.Machine as machine
+use Rattle.script.specs.declared.Dialect.{Dialect}
 use Rattle.sent.specs.Opening.{greeting, openedBy}
 use Rattle.sent.specs.Replies.{silence, startAnswer, sentBytes}
 use Rattle.sent.specs.declared.Bus.{Bus}
@@ -110,9 +111,9 @@ silence-fits : (bus : Bus) → length (sentBytes silence) ≤ openingRoom bus
 silence-fits Bytes = omega arith
 silence-fits Halves = omega arith
 
-pub opened-idle : (bus : Bus) (count : ℕ) (windows : List Window)
-    → (openedBy bus count windows .session .line .have ≡ 0) × (length (sentBytes (openedBy bus count windows .reply)) ≤ openingRoom bus)
+pub opened-idle : (bus : Bus) (dialect : Dialect) (count : ℕ) (windows : List Window)
+    → (openedBy bus dialect count windows .session .line .have ≡ 0) × (length (sentBytes (openedBy bus dialect count windows .reply)) ≤ openingRoom bus)
 unfolding openedBy
-opened-idle bus count windows =
+opened-idle bus dialect count windows =
     of-choice (λ (o : Opened). (o .session .line .have ≡ 0) × (length (sentBytes (o .reply)) ≤ openingRoom bus)) _ (λ e. (refl, silence-fits bus))
     (λ e. (refl, greeting-fits bus))

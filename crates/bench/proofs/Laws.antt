@@ -7,6 +7,7 @@ use lib.ListN.{length}
 use borrow.Author.Tests.{not-false}
 use Rattle.words.proofs.Choice.{of-choice}
 use Rattle.windows.specs.declared.Window.{Window}
+use Rattle.script.specs.declared.Dialect.{Dialect}
 use Rattle.flash.specs.Calls.{Way, forward, back, kept, Call}
 use Rattle.flash.specs.Opening.{openedBy}
 use Rattle.flash.specs.Sessions.{Outcome}
@@ -53,10 +54,10 @@ module _ (bound : ℕ) where
         carried-at (enough s) (stepOf s m image) (call-at standing call) (call-within standing call)
 
 -- an opening gives a session within the image
-opened-within : (count : ℕ) (windows : List Window) (image : List ℕ) (limit : ℕ)
-    → Within 65536 (openedBy count windows image limit .session)
+opened-within : (dialect : Dialect) (count : ℕ) (windows : List Window) (image : List ℕ) (limit : ℕ)
+    → Within 65536 (openedBy dialect count windows image limit .session)
 unfolding openedBy
-opened-within count windows image limit =
+opened-within dialect count windows image limit =
     let Short : Opened → Type 0 = λ o. Within 65536 (o .session) in
     of-choice Short _ (λ e. (omega arith, omega arith))
     (λ e. of-choice Short _ (λ e. (omega arith, omega arith))
@@ -64,9 +65,9 @@ opened-within count windows image limit =
     (λ e. (omega arith, length-small (length image) (not-false _ sound)))))
 
 -- the offset that a run from an opening reports
-pub ran-at : (count : ℕ) (windows : List Window) (m image : List ℕ) (limit : ℕ)
-    → ranFrom (openedBy count windows image limit) m image .answer .at ≤ 65536
+pub ran-at : (dialect : Dialect) (count : ℕ) (windows : List Window) (m image : List ℕ) (limit : ℕ)
+    → ranFrom (openedBy dialect count windows image limit) m image .answer .at ≤ 65536
 unfolding ranFrom
-ran-at count windows m image limit =
+ran-at dialect count windows m image limit =
     of-choice (λ (o : Outcome). o .answer .at ≤ 65536) _
-    (λ e. run-at 65536 image _ m (opened-within count windows image limit)) (λ e. omega arith)
+    (λ e. run-at 65536 image _ m (opened-within dialect count windows image limit)) (λ e. omega arith)

@@ -7,6 +7,7 @@ use lib.ListN.{length, drop}
 use Rattle.words.specs.Choice.{pick}
 use Rattle.windows.specs.Window.{sumOf}
 use Rattle.script.specs.Answers.{numberOf}
+use Rattle.script.specs.declared.Dialect.{Dialect}
 use Rattle.script.specs.declared.Refusal.the-variants as refusal
 use Rattle.sent.specs.Bus.{unitBits, unitsFed}
 use Rattle.sent.specs.Line.{Outcome, unitStep}
@@ -81,9 +82,15 @@ sessionFrom bus o memory bytes room =
     (pick (not (roomy bus (length bytes) room)) (unfed (numberOf refusal.Call) memory)
     (greeted (o .reply) (fedAll bus (o .session) memory (unitsFed bus bytes)))))
 
--- a session on a map's bytes
-abbrev pub sentSession : Bus → List ℕ → List ℕ → List ℕ → List ℕ → Fed
-sentSession bus map memory bytes room = sessionFrom bus (openedBy bus (countOf map) (windowsOf map)) memory bytes (length room)
+-- a session on a line, in a dialect, on a map's bytes
+abbrev pub sentSession : Bus → Dialect → List ℕ → List ℕ → List ℕ → List ℕ → Fed
+sentSession bus dialect map memory bytes room = sessionFrom bus (openedBy bus dialect (countOf map) (windowsOf map)) memory bytes (length room)
+
+-- the same on the line of a number: 0 bytes, 1 halves; any other is 19 before anything else is judged
+unfoldable pub lineSession : ℕ → Dialect → List ℕ → List ℕ → List ℕ → List ℕ → Fed
+lineSession line dialect map memory bytes room =
+    pick (eqb line 0) (sentSession Bytes dialect map memory bytes room)
+    (pick (eqb line 1) (sentSession Halves dialect map memory bytes room) (unfed (numberOf refusal.Call) memory))
 
 -- the first refusal and the count of reply bytes in one number
 unfoldable pub tallied : Fed → ℕ
@@ -94,13 +101,13 @@ unfoldable pub laidIn : List ℕ → Fed → List ℕ
 laidIn room f = f .replies ++ drop (length (f .replies)) room
 
 -- the value that the bench gets
-abbrev pub sentValue : Bus → List ℕ → List ℕ → List ℕ → List ℕ → ℕ
-sentValue bus map memory bytes room = tallied (sentSession bus map memory bytes room)
+abbrev pub sentValue : Bus → Dialect → List ℕ → List ℕ → List ℕ → List ℕ → ℕ
+sentValue bus dialect map memory bytes room = tallied (sentSession bus dialect map memory bytes room)
 
 -- the memory that the session leaves
-abbrev pub sentMemory : Bus → List ℕ → List ℕ → List ℕ → List ℕ → List ℕ
-sentMemory bus map memory bytes room = sentSession bus map memory bytes room .memory
+abbrev pub sentMemory : Bus → Dialect → List ℕ → List ℕ → List ℕ → List ℕ → List ℕ
+sentMemory bus dialect map memory bytes room = sentSession bus dialect map memory bytes room .memory
 
 -- the room that it leaves
-abbrev pub sentRoom : Bus → List ℕ → List ℕ → List ℕ → List ℕ → List ℕ
-sentRoom bus map memory bytes room = laidIn room (sentSession bus map memory bytes room)
+abbrev pub sentRoom : Bus → Dialect → List ℕ → List ℕ → List ℕ → List ℕ → List ℕ
+sentRoom bus dialect map memory bytes room = laidIn room (sentSession bus dialect map memory bytes room)

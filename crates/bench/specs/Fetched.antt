@@ -2,6 +2,7 @@
 use Prim.Native.Nat.{ℕ, _+_, _*_, _^_}
 use mathlib.Core.List.{List}
 use Rattle.script.specs.Answers.{numberOf}
+use Rattle.script.specs.declared.Dialect.{Dialect}
 use Rattle.flash.specs.declared.Called.{Called}
 use Rattle.bench.specs.Runs.{flashRun}
 
@@ -10,5 +11,5 @@ unfoldable pub fetchedReport : Called → ℕ
 fetchedReport a = numberOf (a .refusal) * 2 ^ 32 + a .session .fetched
 
 -- the value that the bench gets
-abbrev pub fetchedValue : List ℕ → List ℕ → List ℕ → ℕ → ℕ
-fetchedValue map memory image limit = fetchedReport (flashRun map memory image limit .answer)
+abbrev pub fetchedValue : Dialect → List ℕ → List ℕ → List ℕ → ℕ → ℕ
+fetchedValue dialect map memory image limit = fetchedReport (flashRun dialect map memory image limit .answer)

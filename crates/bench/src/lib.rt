@@ -26,12 +26,14 @@ ghost use Rattle.bench.specs.Feeding.{
   sentValue,
   sentMemory,
   sentRoom,
+  lineSession,
 };
 ghost use Rattle.bench.specs.Fetched.{fetchedReport, fetchedValue};
 ghost use Rattle.bench.specs.Runs.{ranFrom, reported, flashValue, flashMemory};
 use flash::Called;
 use flash::Opened;
 use flash::Session;
+use script::Dialect;
 use script::Event;
 use script::Refusal;
 use sent::Bus;
@@ -85,12 +87,25 @@ fn report_fetched(called: Called) -> u64
     ((refusal.number() as u64) << 32) + (called.session.fetched as u64)
 }
 
-// Opens an image on a map and runs it, unchanged, to the end of its session; answered by its report, or by the words fetched.
-fn run_image(map: &[u8], memory: &mut [u8], image: &[u8], limit: u8, fetched: bool) -> u64
-    ensures { λ r. ⌜ r ≡ pick fetched (fetchedValue (now (map .entry)) (now (memory .entry)) (now (image .entry)) limit) (flashValue (now (map .entry)) (now (memory .entry)) (now (image .entry)) limit) ⌝ }
-    ensures { λ _. ⌜ now (memory .exit) ≡ flashMemory (now (map .entry)) (now (memory .entry)) (now (image .entry)) limit ⌝ }
+// Opens an image in a dialect on a map and runs it, unchanged, to the end of its session; answered by its report, or by the words fetched.
+fn run_image(
+    dialect: Dialect,
+    map: &[u8],
+    memory: &mut [u8],
+    image: &[u8],
+    limit: u8,
+    fetched: bool,
+) -> u64
+    ensures { λ r. ⌜ r ≡ pick fetched (fetchedValue dialect (now (map .entry)) (now (memory .entry)) (now (image .entry)) limit) (flashValue dialect (now (map .entry)) (now (memory .entry)) (now (image .entry)) limit) ⌝ }
+    ensures { λ _. ⌜ now (memory .exit) ≡ flashMemory dialect (now (map .entry)) (now (memory .entry)) (now (image .entry)) limit ⌝ }
 {
-    let opened = Session::open(maps::count_of(map), maps::windows_of(map), image, limit);
+    let opened = Session::open(
+        dialect,
+        maps::count_of(map),
+        maps::windows_of(map),
+        image,
+        limit,
+    );
     let called = run_from(opened, memory, image);
     if fetched {
         return report_fetched(called);
@@ -101,19 +116,28 @@ fn run_image(map: &[u8], memory: &mut [u8], image: &[u8], limit: u8, fetched: bo
 // One whole flash run of an unchanged image.
 #[no_mangle]
 pub extern "C" fn ais_flash_run(map: &[u8], memory: &mut [u8], image: &[u8], limit: u8) -> u64
-    ensures { λ r. ⌜ r ≡ flashValue (now (map .entry)) (now (memory .entry)) (now (image .entry)) limit ⌝ }
-    ensures { λ _. ⌜ now (memory .exit) ≡ flashMemory (now (map .entry)) (now (memory .entry)) (now (image .entry)) limit ⌝ }
+    ensures { λ r. ⌜ r ≡ flashValue Dialect.Am17xx (now (map .entry)) (now (memory .entry)) (now (image .entry)) limit ⌝ }
+    ensures { λ _. ⌜ now (memory .exit) ≡ flashMemory Dialect.Am17xx (now (map .entry)) (now (memory .entry)) (now (image .entry)) limit ⌝ }
 {
-    run_image(map, memory, image, limit, false)
+    run_image(Dialect::Am17xx, map, memory, image, limit, false)
 }
 
 // The same run, asked for the words that it fetched.
 #[no_mangle]
 pub extern "C" fn ais_flash_fetched(map: &[u8], memory: &mut [u8], image: &[u8], limit: u8) -> u64
-    ensures { λ r. ⌜ r ≡ fetchedValue (now (map .entry)) (now (memory .entry)) (now (image .entry)) limit ⌝ }
-    ensures { λ _. ⌜ now (memory .exit) ≡ flashMemory (now (map .entry)) (now (memory .entry)) (now (image .entry)) limit ⌝ }
+    ensures { λ r. ⌜ r ≡ fetchedValue Dialect.Am17xx (now (map .entry)) (now (memory .entry)) (now (image .entry)) limit ⌝ }
+    ensures { λ _. ⌜ now (memory .exit) ≡ flashMemory Dialect.Am17xx (now (map .entry)) (now (memory .entry)) (now (image .entry)) limit ⌝ }
 {
-    run_image(map, memory, image, limit, true)
+    run_image(Dialect::Am17xx, map, memory, image, limit, true)
+}
+
+// One whole flash run of a DM648 image.
+#[no_mangle]
+pub extern "C" fn ais_dm648_run(map: &[u8], memory: &mut [u8], image: &[u8], limit: u8) -> u64
+    ensures { λ r. ⌜ r ≡ flashValue Dialect.Dm648 (now (map .entry)) (now (memory .entry)) (now (image .entry)) limit ⌝ }
+    ensures { λ _. ⌜ now (memory .exit) ≡ flashMemory Dialect.Dm648 (now (map .entry)) (now (memory .entry)) (now (image .entry)) limit ⌝ }
+{
+    run_image(Dialect::Dm648, map, memory, image, limit, false)
 }
 
 // Writes a reply into the room from a place on; the place past it.
@@ -257,6 +281,23 @@ fn session_from(
     feed_all(bus, session, opening, memory, fed, room)
 }
 
+// One whole sent session on a line, in a dialect.
+fn session_on(
+    bus: Bus,
+    dialect: Dialect,
+    map: &[u8],
+    memory: &mut [u8],
+    fed: &[u8],
+    room: &mut [u8],
+) -> u64
+    ensures { λ r. ⌜ r ≡ sentValue bus dialect (now (map .entry)) (now (memory .entry)) (now (fed .entry)) (now (room .entry)) ⌝ }
+    ensures { λ _. ⌜ now (memory .exit) ≡ sentMemory bus dialect (now (map .entry)) (now (memory .entry)) (now (fed .entry)) (now (room .entry)) ⌝ }
+    ensures { λ _. ⌜ now (room .exit) ≡ sentRoom bus dialect (now (map .entry)) (now (memory .entry)) (now (fed .entry)) (now (room .entry)) ⌝ }
+{
+    let opened = sent::open_on(bus, dialect, maps::count_of(map), maps::windows_of(map));
+    session_from(bus, opened, memory, fed, room)
+}
+
 // One whole sent session on the line of bytes.
 #[no_mangle]
 pub extern "C" fn ais_sent_session(
@@ -265,12 +306,11 @@ pub extern "C" fn ais_sent_session(
     fed: &[u8],
     room: &mut [u8],
 ) -> u64
-    ensures { λ r. ⌜ r ≡ sentValue Bus.Bytes (now (map .entry)) (now (memory .entry)) (now (fed .entry)) (now (room .entry)) ⌝ }
-    ensures { λ _. ⌜ now (memory .exit) ≡ sentMemory Bus.Bytes (now (map .entry)) (now (memory .entry)) (now (fed .entry)) (now (room .entry)) ⌝ }
-    ensures { λ _. ⌜ now (room .exit) ≡ sentRoom Bus.Bytes (now (map .entry)) (now (memory .entry)) (now (fed .entry)) (now (room .entry)) ⌝ }
+    ensures { λ r. ⌜ r ≡ sentValue Bus.Bytes Dialect.Am17xx (now (map .entry)) (now (memory .entry)) (now (fed .entry)) (now (room .entry)) ⌝ }
+    ensures { λ _. ⌜ now (memory .exit) ≡ sentMemory Bus.Bytes Dialect.Am17xx (now (map .entry)) (now (memory .entry)) (now (fed .entry)) (now (room .entry)) ⌝ }
+    ensures { λ _. ⌜ now (room .exit) ≡ sentRoom Bus.Bytes Dialect.Am17xx (now (map .entry)) (now (memory .entry)) (now (fed .entry)) (now (room .entry)) ⌝ }
 {
-    let opened = sent::Session::open(maps::count_of(map), maps::windows_of(map));
-    session_from(Bus::Bytes, opened, memory, fed, room)
+    session_on(Bus::Bytes, Dialect::Am17xx, map, memory, fed, room)
 }
 
 // One whole sent session on the line of halves, each lent as two bytes, the low one first.
@@ -281,12 +321,33 @@ pub extern "C" fn ais_half_session(
     fed: &[u8],
     room: &mut [u8],
 ) -> u64
-    ensures { λ r. ⌜ r ≡ sentValue Bus.Halves (now (map .entry)) (now (memory .entry)) (now (fed .entry)) (now (room .entry)) ⌝ }
-    ensures { λ _. ⌜ now (memory .exit) ≡ sentMemory Bus.Halves (now (map .entry)) (now (memory .entry)) (now (fed .entry)) (now (room .entry)) ⌝ }
-    ensures { λ _. ⌜ now (room .exit) ≡ sentRoom Bus.Halves (now (map .entry)) (now (memory .entry)) (now (fed .entry)) (now (room .entry)) ⌝ }
+    ensures { λ r. ⌜ r ≡ sentValue Bus.Halves Dialect.Am17xx (now (map .entry)) (now (memory .entry)) (now (fed .entry)) (now (room .entry)) ⌝ }
+    ensures { λ _. ⌜ now (memory .exit) ≡ sentMemory Bus.Halves Dialect.Am17xx (now (map .entry)) (now (memory .entry)) (now (fed .entry)) (now (room .entry)) ⌝ }
+    ensures { λ _. ⌜ now (room .exit) ≡ sentRoom Bus.Halves Dialect.Am17xx (now (map .entry)) (now (memory .entry)) (now (fed .entry)) (now (room .entry)) ⌝ }
 {
-    let opened = sent::Session::open_halves(maps::count_of(map), maps::windows_of(map));
-    session_from(Bus::Halves, opened, memory, fed, room)
+    session_on(Bus::Halves, Dialect::Am17xx, map, memory, fed, room)
+}
+
+// One whole sent session of a DM648, on the line of a number: 0 bytes, 1 halves; any other is refused with 19 before anything else is judged.
+#[no_mangle]
+pub extern "C" fn ais_dm648_session(
+    line: u8,
+    map: &[u8],
+    memory: &mut [u8],
+    fed: &[u8],
+    room: &mut [u8],
+) -> u64
+    ensures { λ r. ⌜ r ≡ tallied (lineSession line Dialect.Dm648 (now (map .entry)) (now (memory .entry)) (now (fed .entry)) (now (room .entry))) ⌝ }
+    ensures { λ _. ⌜ now (memory .exit) ≡ lineSession line Dialect.Dm648 (now (map .entry)) (now (memory .entry)) (now (fed .entry)) (now (room .entry)) .memory ⌝ }
+    ensures { λ _. ⌜ now (room .exit) ≡ laidIn (now (room .entry)) (lineSession line Dialect.Dm648 (now (map .entry)) (now (memory .entry)) (now (fed .entry)) (now (room .entry))) ⌝ }
+{
+    if line == 0 {
+        return session_on(Bus::Bytes, Dialect::Dm648, map, memory, fed, room);
+    }
+    if line == 1 {
+        return session_on(Bus::Halves, Dialect::Dm648, map, memory, fed, room);
+    }
+    refuse(Refusal::Call)
 }
 
 // A text of hexadecimal digits read into an image: 0 or the refusal.

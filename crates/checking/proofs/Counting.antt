@@ -1,6 +1,6 @@
 -- The words told are within the ceiling: for an image by the law of a run, and what is no image is refused at the opening with nothing fetched.
 use Prim.Native.Nat.{ℕ, _/_, _≤_}
-use mathlib.Core.Bool.{true, false, true≢false}
+use mathlib.Core.Bool.{false, true≢false}
 use mathlib.Core.List.{List}
 use mathlib.Core.Path.{_≡_, refl, sym, ap, subst, _∙_}
 use native.Mathlib.Omega.{arith}
@@ -11,6 +11,7 @@ use Rattle.words.proofs.Choice.{chosen, passed, by-test, of-choice}
 use Rattle.script.specs.Answers.{numberOf}
 use Rattle.script.specs.declared.Refusal.{Refusal}
 use Rattle.script.specs.declared.Refusal.the-variants.{Map, Image}
+use Rattle.script.specs.declared.Dialect.the-variants.{Am17xx}
 use Rattle.flash.specs.Opening.{goodLength, refusedBy, openedBy}
 use Rattle.flash.specs.declared.Called.{Called}
 use Rattle.flash.specs.declared.Opened.{Opened}
@@ -21,11 +22,11 @@ use Rattle.checking.specs.Report.{windows, lastAnswer}
 
 -- the last answer has fetched no more than the ceiling
 answer-within : (image : List ℕ) (limit : ℕ)
-    → lastAnswer image (openedBy 1 windows image limit) .session .fetched ≤ ceiling limit (length image / 4)
+    → lastAnswer image (openedBy Am17xx 1 windows image limit) .session .fetched ≤ ceiling limit (length image / 4)
 unfolding lastAnswer
 answer-within image limit =
     of-choice (λ (a : Called). a .session .fetched ≤ ceiling limit (length image / 4)) _
-    (λ e. ceilings .run 1 windows image limit _) (λ e. opened-within 1 windows image limit)
+    (λ e. ceilings .run Am17xx 1 windows image limit _) (λ e. opened-within Am17xx 1 windows image limit)
 
 -- what is refused at the opening before its first word is looked at has fetched none
 refused-none : (image : List ℕ) (q : Refusal) → eqb (numberOf q) 0 ≡ false → lastAnswer image (refusedBy q 0) .session .fetched ≡ 0
@@ -33,7 +34,7 @@ unfolding lastAnswer
 refused-none image q e = ap (λ (a : Called). a .session .fetched) (passed _ _ _ e)
 
 no-image-none : (image : List ℕ) (limit : ℕ) → goodLength (length image) ≡ false
-    → lastAnswer image (openedBy 1 windows image limit) .session .fetched ≡ 0
+    → lastAnswer image (openedBy Am17xx 1 windows image limit) .session .fetched ≡ 0
 unfolding openedBy
 no-image-none image limit bad =
     let None : Opened → Type 0 = λ o. lastAnswer image o .session .fetched ≡ 0 in
@@ -45,5 +46,5 @@ unfolding countedOf mostOf
 within-ceiling image limit =
     by-test (goodLength (length image))
     (λ good.
-    subst (λ (most : ℕ). lastAnswer image (openedBy 1 windows image limit) .session .fetched ≤ most) (sym (chosen _ _ _ good)) (answer-within image limit))
+    subst (λ (most : ℕ). lastAnswer image (openedBy Am17xx 1 windows image limit) .session .fetched ≤ most) (sym (chosen _ _ _ good)) (answer-within image limit))
     (λ bad. omega (arith, no-image-none image limit bad))

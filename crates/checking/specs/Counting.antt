@@ -4,6 +4,7 @@ use mathlib.Core.List.{List}
 use lib.ListN.{length}
 use Rattle.words.specs.Choice.{pick}
 use Rattle.script.specs.Answers.{numberOf}
+use Rattle.script.specs.declared.Dialect.the-variants.{Am17xx}
 use Rattle.flash.specs.Opening.{goodLength, openedBy}
 use Rattle.flash.specs.declared.Called.{Called}
 use Rattle.fetches.specs.Ceiling.{ceiling}
@@ -19,7 +20,7 @@ abbrev pub counted : ℕ → ℕ → Called → Counted
 counted n limit a = record { code = numberOf (a .refusal); fetched = a .session .fetched; ceiling = mostOf n limit }
 
 unfoldable pub countedOf : List ℕ → ℕ → Counted
-countedOf image limit = counted (length image) limit (lastAnswer image (openedBy 1 windows image limit))
+countedOf image limit = counted (length image) limit (lastAnswer image (openedBy Am17xx 1 windows image limit))
 
 -- never more than the ceiling
 abbrev pub WithinCeiling : Type 0

@@ -7,6 +7,7 @@ use Rattle.words.specs.Choice.{pick}
 use Rattle.windows.specs.Map.{zeroWindow}
 use Rattle.windows.specs.declared.Window.{Window}
 use Rattle.script.specs.Answers.{numberOf, valueOf}
+use Rattle.script.specs.declared.Dialect.{Dialect}
 use Rattle.script.specs.declared.Event.the-variants.{Nothing}
 use Rattle.flash.specs.Opening.{openedBy}
 use Rattle.flash.specs.declared.Called.{Called}
@@ -19,8 +20,8 @@ abbrev pub windows : List Window
 windows = record { first = 0x80000000; length = 4096; rights = 7 } ∷ replicate 7 zeroWindow
 
 -- the opening of an image with this window, of one window, and retry limit 0
-abbrev pub opened : List ℕ → Opened
-opened image = openedBy 1 windows image 0
+abbrev pub opened : Dialect → List ℕ → Opened
+opened dialect image = openedBy dialect 1 windows image 0
 
 -- what is reported of the last answer: entered where nothing is refused, its entry else 0
 abbrev pub reported : Called → Report
@@ -40,5 +41,5 @@ lastAnswer image o =
     pick (eqb (numberOf (o .refusal)) 0) (runOf (o .session) (replicate 4096 0) image .answer)
     (record { refusal = o .refusal; event = Nothing; at = 0; session = o .session })
 
-unfoldable pub reportOf : List ℕ → Report
-reportOf image = reported (lastAnswer image (opened image))
+unfoldable pub reportOf : Dialect → List ℕ → Report
+reportOf dialect image = reported (lastAnswer image (opened dialect image))

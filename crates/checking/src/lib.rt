@@ -11,6 +11,7 @@ ghost use Rattle.checking.specs.Report.{windows, opened, reported, lastA
 use flash::Called;
 use flash::Opened;
 use flash::Session;
+use script::Dialect;
 use script::Event;
 use windows::Window;
 
@@ -81,8 +82,8 @@ fn answer_to(image: &[u8], opened: Opened) -> Called
 }
 
 // Opens an image in the check program's window.
-fn open_on(image: &[u8], limit: u8) -> Opened
-    ensures { λ r. ⌜ r ≡ openedBy 1 windows (now (image .entry)) limit ⌝ }
+fn open_on(dialect: Dialect, image: &[u8], limit: u8) -> Opened
+    ensures { λ r. ⌜ r ≡ openedBy dialect 1 windows (now (image .entry)) limit ⌝ }
 {
     let none = Window {
         first: 0,
@@ -95,21 +96,21 @@ fn open_on(image: &[u8], limit: u8) -> Opened
         rights: 7,
     };
     let windows = [window, none, none, none, none, none, none, none];
-    Session::open(1, windows, image, limit)
+    Session::open(dialect, 1, windows, image, limit)
 }
 
 // Opens an image for the check program: its window, and no retries.
-pub fn open(image: &[u8]) -> Opened
-    ensures { λ r. ⌜ r ≡ opened (now (image .entry)) ⌝ }
+pub fn open(dialect: Dialect, image: &[u8]) -> Opened
+    ensures { λ r. ⌜ r ≡ opened dialect (now (image .entry)) ⌝ }
 {
-    open_on(image, 0)
+    open_on(dialect, image, 0)
 }
 
 // Opens and runs an image, and reports the end.
-pub fn check(image: &[u8]) -> Report
-    ensures { λ r. ⌜ r ≡ reportOf (now (image .entry)) ⌝ }
+pub fn check(dialect: Dialect, image: &[u8]) -> Report
+    ensures { λ r. ⌜ r ≡ reportOf dialect (now (image .entry)) ⌝ }
 {
-    report_of(answer_to(image, open_on(image, 0)))
+    report_of(answer_to(image, open_on(dialect, image, 0)))
 }
 
 // The most words that an image of so many bytes may fetch.
@@ -126,7 +127,7 @@ fn ceiling_of(n: usize, limit: u8) -> u32
 pub fn count_fetches(image: &[u8], limit: u8) -> Counted
     ensures { λ r. ⌜ r ≡ countedOf (now (image .entry)) limit ⌝ }
 {
-    let called = answer_to(image, open_on(image, limit));
+    let called = answer_to(image, open_on(Dialect::Am17xx, image, limit));
     let refusal = called.refusal;
     Counted {
         code: refusal.number(),

@@ -23,7 +23,20 @@ use Rattle.script.proofs.Refusal.number.Reads as number
 use Rattle.script.proofs.Event.kind.Reads as kind
 use Rattle.script.proofs.Event.value.Reads as value
 use Rattle.script.proofs.look_up.Reads as look_up
+use Rattle.totals.proofs.Totals.zero.Reads as totals-zero
+use Rattle.totals.proofs.Totals.would_pass.Reads as totals-would-pass
+use Rattle.totals.proofs.Totals.differ.Reads as totals-differ
+use Rattle.totals.proofs.Totals.count.Reads as totals-count
+use Rattle.totals.proofs.Totals.mark.Reads as totals-mark
+use Rattle.totals.proofs.Totals.settle.Reads as totals-settle
+use Rattle.totals.proofs.Totals.ask.Reads as totals-ask
+use Rattle.totals.proofs.Totals.put_back.Reads as totals-put-back
+use Rattle.totals.proofs.Totals.turn.Reads as totals-turn
+use Rattle.commands.proofs.bar.Reads as bar
 use Rattle.commands.proofs.judge_load.Reads as judge_load
+use Rattle.commands.proofs.judge_fill.Reads as judge_fill
+use Rattle.commands.proofs.judge_setting.Reads as judge_setting
+use Rattle.commands.proofs.judge_entry.Reads as judge_entry
 use Rattle.commands.proofs.load.Reads as load
 use Rattle.commands.proofs.fill.Reads as fill
 use Rattle.commands.proofs.boot_table.Reads as boot_table
@@ -46,6 +59,7 @@ use Rattle.survey.proofs.Survey.including.Reads as survey-including
 use Rattle.survey.proofs.Survey.totals.Reads as survey-totals
 use Rattle.sent.proofs.Session.«open».Reads as sent-opening
 use Rattle.sent.proofs.Session.open_halves.Reads as half-opening
+use Rattle.sent.proofs.open_on.Reads as opening-on
 use Rattle.sent.proofs.Session.step.Reads as sent-step
 use Rattle.sent.proofs.Session.step_half.Reads as half-step
 use Rattle.sent.proofs.Session.step_at.Reads as step-at
@@ -58,6 +72,8 @@ use Rattle.maps.proofs.windows_of.Reads as windows_of
 use Rattle.bench.proofs.ais_flash_fetched.Reads as ais_flash_fetched
 use Rattle.hex.proofs.read.Reads as read
 use Rattle.hex.proofs.write.Reads as written
+use Rattle.bench.proofs.ais_dm648_run.Reads as ais_dm648_run
+use Rattle.bench.proofs.ais_dm648_session.Reads as ais_dm648_session
 use Rattle.bench.proofs.ais_flash_run.Reads as ais_flash_run
 use Rattle.bench.proofs.ais_half_session.Reads as ais_half_session
 use Rattle.bench.proofs.ais_sent_session.Reads as ais_sent_session
@@ -150,17 +166,57 @@ value-unique κs a r s e f = same
 pub look-up-unique : OneResult look_up.Post
 look-up-unique κs a r s e f = same
 
+-- totals
+pub totals-zero-unique : OneResult totals-zero.Post
+totals-zero-unique κs a r s e f = same
+
+pub totals-would-pass-unique : OneResult totals-would-pass.Post
+totals-would-pass-unique κs a r s e f = same
+
+pub totals-differ-unique : OneResult totals-differ.Post
+totals-differ-unique κs a r s e f = same
+
+pub totals-count-unique : OneResult totals-count.Post
+totals-count-unique κs a r s e f = same
+
+pub totals-mark-unique : OneResult totals-mark.Post
+totals-mark-unique κs a r s e f = same
+
+pub totals-settle-unique : OneResult totals-settle.Post
+totals-settle-unique κs a r s e f = same
+
+pub totals-ask-unique : OneResult totals-ask.Post
+totals-ask-unique κs a r s e f = same
+
+pub totals-put-back-unique : OneResult totals-put-back.Post
+totals-put-back-unique κs a r s e f = same
+
+pub totals-turn-unique : OneResult totals-turn.Post
+totals-turn-unique κs a r s e f = same
+
 -- commands
+pub bar-unique : OneResult bar.Post
+bar-unique κs a r s e f = same
+
+pub judge-fill-unique : OneResult judge_fill.Post
+judge-fill-unique κs a r s e f = same
+
+pub judge-setting-unique : OneResult judge_setting.Post
+judge-setting-unique κs a r s e f = same
+
+pub judge-entry-unique : OneResult judge_entry.Post
+judge-entry-unique κs a r s e f = same
+
 pub judge-load-unique : OneResult judge_load.Post
 judge-load-unique κs a r s e f = same
 
 pub load-unique : OneResultAndMemory load.Post (λ κs e. now (e .0))
 load-unique κs a r s e f = both-same
 
-pub fill-unique : OneResultAndMemory fill.Post (λ κs e. now (e .1 .0))
+pub fill-unique : OneResultAndMemory fill.Post (λ κs e. now (e .0))
 fill-unique κs a r s e f = both-same
 
-pub boot-table-unique : OneResultAndMemory boot_table.Post (λ κs e. now (e .1 .0))
+pub boot-table-unique : OneResultAndMemory boot_table.Post (λ κs e. now (e .0))
 boot-table-unique κs a r s e f = both-same
 
 pub jump-and-close-unique : OneResult jump_and_close.Post
@@ -225,6 +281,9 @@ sent-open-unique κs a r s e f = same
 pub half-open-unique : OneResult half-opening.Post
 half-open-unique κs a r s e f = same
 
+pub open-on-unique : OneResult opening-on.Post
+open-on-unique κs a r s e f = same
+
 pub sent-step-unique : OneResultAndMemory sent-step.Post (λ κs e. now (e .1 .0))
 sent-step-unique κs a r s e f = both-same
 
@@ -263,6 +322,9 @@ ais-flash-run-unique κs a r s e f = both-same
 pub ais-flash-fetched-unique : OneResultAndMemory ais_flash_fetched.Post (λ κs e. now (e .1 .0))
 ais-flash-fetched-unique κs a r s e f = both-same
 
+pub ais-dm648-run-unique : OneResultAndMemory ais_dm648_run.Post (λ κs e. now (e .1 .0))
+ais-dm648-run-unique κs a r s e f = both-same
+
 pub ais-sent-session-unique : Coincide ais_sent_session.Post
     (λ κs r s e f. (r ≡ s) × ((now (e .1 .0) ≡ now (f .1 .0)) × (now (e .1 .1 .1 .0) ≡ now (f .1 .1 .1 .0))))
 ais-sent-session-unique κs a r s e f p q = (same (p .0) (q .0), both-same (p .1) (q .1))
@@ -270,6 +332,10 @@ ais-sent-session-unique κs a r s e f p q = (same (p .0) (q .0), both-same (p .1
 pub ais-half-session-unique : Coincide ais_half_session.Post
     (λ κs r s e f. (r ≡ s) × ((now (e .1 .0) ≡ now (f .1 .0)) × (now (e .1 .1 .1 .0) ≡ now (f .1 .1 .1 .0))))
 ais-half-session-unique κs a r s e f p q = (same (p .0) (q .0), both-same (p .1) (q .1))
+
+pub ais-dm648-session-unique : Coincide ais_dm648_session.Post
+    (λ κs r s e f. (r ≡ s) × ((now (e .1 .1 .0) ≡ now (f .1 .1 .0)) × (now (e .1 .1 .1 .1 .0) ≡ now (f .1 .1 .1 .1 .0))))
+ais-dm648-session-unique κs a r s e f p q = (same (p .0) (q .0), both-same (p .1) (q .1))
 
 pub ais-hex-read-unique : OneResultAndMemory ais_hex_read.Post (λ κs e. now (e .1 .0))
 ais-hex-read-unique κs a r s e f = both-same

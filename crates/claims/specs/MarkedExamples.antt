@@ -8,9 +8,10 @@ use Rattle.words.specs.Bytes.{byte}
 use Rattle.checksum.specs.Checksum.{fedWords}
 use Rattle.windows.specs.Map.{zeroWindow}
 use Rattle.windows.specs.declared.Window.{Window}
-use Rattle.commands.specs.Commands.{judgedNumber, soughtNumber, loadJudged, loadFed, fillJudged, fillMemory, settingJudged, settingMemory, soughtFrom}
+use Rattle.commands.specs.Commands.{judgedNumber, soughtNumber, loadJudged, loadFed, fillJudged, settingJudged, soughtFrom}
 use Rattle.commands.specs.declared.Judged.the-variants.{Granted}
 use Rattle.commands.specs.declared.Sought.the-variants as sought
+use Rattle.claims.specs.Leaving.{setOn, filledOn}
 
 -- every statement of a list holds
 abbrev pub AllHold : List (Type 0) → Type 0
@@ -33,13 +34,13 @@ marked =
     -- a load of three words: the second section of 000's sample
     ∷ (loadFed 0 0x10800040 (0xA ∷ 0 ∷ 0 ∷ 0 ∷ 0xB ∷ 0 ∷ 0 ∷ 0 ∷ 0xC ∷ 0 ∷ 0 ∷ 0 ∷ []) ≡ 0x8434A250)
     -- bits 4 to 6 of the word 0x7F become 1
-    ∷ ((rest : List ℕ) → settingMemory windows (wordThen 0x7F rest) 0x00060403 0x80000000 1 ≡ wordThen 0x1F rest)
+    ∷ ((rest : List ℕ) → setOn windows (wordThen 0x7F rest) 0x00060403 0x80000000 1 ≡ wordThen 0x1F rest)
     -- they do not hold 9, which needs four bits: refused, and the word is kept
     ∷ ((rest : List ℕ) → (judgedNumber (settingJudged windows 0x00060403 0x80000000 9) ≡ 16)
-    × (settingMemory windows (wordThen 0x7F rest) 0x00060403 0x80000000 9 ≡ wordThen 0x7F rest))
+    × (setOn windows (wordThen 0x7F rest) 0x00060403 0x80000000 9 ≡ wordThen 0x7F rest))
     -- a field of bits 0 to 31: whatever the word was, it becomes the data, which are a word
     ∷ ((word value : ℕ) (rest : List ℕ) → value < 2 ^ 32
-    → settingMemory windows (wordThen word rest) 0x001F0003 0x80000000 value ≡ wordThen value rest)
+    → setOn windows (wordThen word rest) 0x001F0003 0x80000000 value ≡ wordThen value rest)
     -- a field that would start at bit 5 and stop at bit 4 is a wrong type word, whatever the data
     ∷ ((value : ℕ) → judgedNumber (settingJudged windows 0x00040503 0x80000000 value) ≡ 8)
     -- the window's last byte may be loaded
@@ -49,7 +50,7 @@ marked =
     -- the end is outside the window, so not even nothing may be loaded there
     ∷ (judgedNumber (loadJudged windows 0x80001000 0) ≡ 7)
     -- six bytes filled by units of two, whatever they were
-    ∷ ((a b c d e f : ℕ) (rest : List ℕ) → fillMemory windows (a ∷ b ∷ c ∷ d ∷ e ∷ f ∷ rest) 0x80000000 6 1 0x0000BEEF
+    ∷ ((a b c d e f : ℕ) (rest : List ℕ) → filledOn windows (a ∷ b ∷ c ∷ d ∷ e ∷ f ∷ rest) 0x80000000 6 1 0x0000BEEF
     ≡ 0xEF ∷ 0xBE ∷ 0xEF ∷ 0xBE ∷ 0xEF ∷ 0xBE ∷ rest)
     -- five bytes are no whole number of such units
     ∷ (judgedNumber (fillJudged windows 0x80000000 5 1) ≡ 9)

@@ -9,8 +9,9 @@ use Rattle.windows.specs.Window.{placeOf}
 use Rattle.windows.specs.declared.Window.{Window}
 use Rattle.windows.specs.declared.Place.the-variants.{Nowhere}
 use Rattle.windows.specs.declared.Right.{Right}
-use Rattle.commands.specs.Commands.{judgedNumber, rangeJudged, loadJudged, fillJudged, fillMemory, settingJudged, settingMemory, entryJudged}
+use Rattle.commands.specs.Commands.{judgedNumber, rangeJudged, loadJudged, fillJudged, settingJudged, entryJudged}
 use Rattle.commands.specs.declared.Judged.the-variants.{Granted}
+use Rattle.claims.specs.Leaving.{setOn, filledOn}
 
 -- three memories side by side; the last may be loaded only
 abbrev pub sideBySide : List Window
@@ -85,13 +86,13 @@ touching =
     ∷ (loadJudged atTheTop 0xFFFFFFF0 16 ≡ Granted 0)
     ∷ (judgedNumber (loadJudged atTheTop 0xFFFFFFF0 17) ≡ 7)
     -- a word that is set over a seam
-    ∷ (settingMemory insideWord (0xA0 ∷ 0xA1 ∷ 0xA2 ∷ 0xA3 ∷ 0xA4 ∷ 0xA5 ∷ 0xA6 ∷ 0xA7 ∷ []) 2 0x80000000 0x04030201
+    ∷ (setOn insideWord (0xA0 ∷ 0xA1 ∷ 0xA2 ∷ 0xA3 ∷ 0xA4 ∷ 0xA5 ∷ 0xA6 ∷ 0xA7 ∷ []) 2 0x80000000 0x04030201
     ≡ 0x01 ∷ 0x02 ∷ 0x03 ∷ 0x04 ∷ 0xA4 ∷ 0xA5 ∷ 0xA6 ∷ 0xA7 ∷ [])
     -- a field over it, bits 20 to 27: the other bits of both bytes are kept
-    ∷ (settingMemory insideWord (0xA0 ∷ 0xA1 ∷ 0xA2 ∷ 0xA3 ∷ 0xA4 ∷ 0xA5 ∷ 0xA6 ∷ 0xA7 ∷ []) 0x001B1403 0x80000000 0x5C
+    ∷ (setOn insideWord (0xA0 ∷ 0xA1 ∷ 0xA2 ∷ 0xA3 ∷ 0xA4 ∷ 0xA5 ∷ 0xA6 ∷ 0xA7 ∷ []) 0x001B1403 0x80000000 0x5C
     ≡ 0xA0 ∷ 0xA1 ∷ 0xC2 ∷ 0xA5 ∷ 0xA4 ∷ 0xA5 ∷ 0xA6 ∷ 0xA7 ∷ [])
     -- six bytes filled over it by units of two, whatever they were
-    ∷ ((a b c d e f g h : ℕ) → fillMemory insideWord (a ∷ b ∷ c ∷ d ∷ e ∷ f ∷ g ∷ h ∷ []) 0x80000000 6 1 0x0000BEEF
+    ∷ ((a b c d e f g h : ℕ) → filledOn insideWord (a ∷ b ∷ c ∷ d ∷ e ∷ f ∷ g ∷ h ∷ []) 0x80000000 6 1 0x0000BEEF
     ≡ 0xEF ∷ 0xBE ∷ 0xEF ∷ 0xBE ∷ 0xEF ∷ 0xBE ∷ g ∷ h ∷ [])
     -- this is no good map: each address lies in a window with the right, and yet no chain goes over both
     ∷ ((goodMap 2 outOfOrder ≡ false) × (judgedNumber (loadJudged outOfOrder 0x80000FFF 2) ≡ 7))

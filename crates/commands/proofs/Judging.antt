@@ -2,7 +2,8 @@
 use Prim.Native.Nat.{ℕ, _%_}
 use mathlib.Core.Bool.{Bool, true, false, not, _&&_, and-false}
 use mathlib.Core.List.{List}
-use mathlib.Core.Path.{_≡_, ap, ap₂}
+use mathlib.Core.Path.{_≡_, refl, ap, ap₂}
+use native.Mathlib.Omega.{arith}
 use borrow.Author.Tests.{eq-eqb, ne-eqb}
 use Rattle.words.specs.Bytes.{sizeOf}
 use Rattle.words.specs.Choice.{pick}
@@ -16,7 +17,7 @@ use Rattle.windows.specs.declared.Right.{Right}
 use Rattle.windows.specs.declared.Right.the-variants as right
 use Rattle.script.specs.declared.Refusal.{Refusal}
 use Rattle.script.specs.declared.Refusal.the-variants as refusal
-use Rattle.commands.specs.Commands.{multiple, placed, rangeJudged, loadJudged, unitOf, unitsJudged, typeJudged, fillJudged, shapeOf, tooWide, shapeJudged, settingJudged, entryJudged}
+use Rattle.commands.specs.Commands.{multiple, placed, barred, rangeJudged, loadJudged, unitOf, unitsJudged, typeJudged, fillJudged, shapeOf, tooWide, shapeJudged, settingJudged, entryJudged}
 use Rattle.commands.specs.declared.Judged.{Judged}
 use Rattle.commands.specs.declared.Judged.the-variants.{Granted, Refused}
 use Rattle.commands.specs.declared.Shape.{Shape}
@@ -70,6 +71,21 @@ module _ (windows : List Window) (address : ℕ) where
   unfolding entryJudged
   entry-placed a = passed _ _ _ (is-multiple _ _ a)
 
+-- a later number: of a test that fails it leaves the judgement, of one that holds it refuses what was granted
+pub unbarred : (test : Bool) (q : Refusal) (judged : Judged) → test ≡ false → barred test q judged ≡ judged
+unbarred test q (Granted place) e = passed _ _ _ e
+unbarred test q (Refused first) e = refl
+
+pub bars : (test : Bool) (q : Refusal) (place : ℕ) → test ≡ true → barred test q (Granted place) ≡ Refused q
+bars test q place e = chosen _ _ _ e
+
+-- what is granted after it was granted before it, its test having failed
+pub granted-before : (test : Bool) (q : Refusal) (judged : Judged) (place : ℕ) → barred test q judged ≡ Granted place → (test ≡ false) × (judged ≡ Granted place)
+unfolding pick
+granted-before false q (Granted there) place e = (refl, e)
+granted-before true q (Granted there) place e = let z : _≡_ {A = ℕ} 0 1 = cc in absurd (omega arith)
+granted-before test q (Refused first) place e = let z : _≡_ {A = ℕ} 0 1 = cc in absurd (omega arith)
+
 -- what holds of each refusal that a judgement may give
 pub record EachRefusal (P : Refusal → Type 0) : Type 0 where
   pub type-word : P refusal.TypeWord
@@ -81,6 +97,11 @@ pub record EachRefusal (P : Refusal → Type 0) : Type 0 where
 abbrev pub Passes : (Refusal → Type 0) → Judged → Type 0
 Passes P (Granted place) = Unit {0}
 Passes P (Refused q) = P q
+
+-- it holds after a later number too, if it holds of that number
+pub barred-passes : (P : Refusal → Type 0) (test : Bool) (q : Refusal) (judged : Judged) → P q → Passes P judged → Passes P (barred test q judged)
+barred-passes P test q (Granted place) p passes = of-choice (Passes P) test (λ e. p) (λ e. tt)
+barred-passes P test q (Refused first) p passes = passes
 
 -- it holds of the one given
 module _ (P : Refusal → Type 0) (each : EachRefusal P) where

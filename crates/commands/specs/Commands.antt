@@ -63,6 +63,11 @@ abbrev pub memoryIf : Judged → (ℕ → List ℕ) → List ℕ → List ℕ
 memoryIf (Granted place) writing memory = writing place
 memoryIf (Refused q) writing memory = memory
 
+-- a number that comes after those of the judgement: a command that is granted gets it where its test holds
+abbrev pub barred : Bool → Refusal → Judged → Judged
+barred test q (Granted place) = pick test (Refused q) (Granted place)
+barred test q (Refused first) = Refused first
+
 -- Load: needs load right
 unfoldable pub loadJudged : List Window → ℕ → ℕ → Judged
 loadJudged windows address size = rangeJudged windows right.Load address size
@@ -108,15 +113,13 @@ abbrev pub typeFilled : List ℕ → ℕ → ℕ → UnitType → ℕ → List �
 typeFilled memory place size Other pattern = memory
 typeFilled memory place size (Of unit) pattern = filled memory place size unit pattern
 
--- a fill feeds address, size, type, pattern while the checksum is on
-unfoldable pub fillDone : List Window → Bool → ℕ → ℕ → ℕ → ℕ → ℕ → Done
-fillDone windows on register address size kind pattern =
-    doneIf (fillJudged windows address size kind) register event.Nothing
-    (pick on (fedWords register (address ∷ size ∷ kind ∷ pattern ∷ [])) register)
+-- a fill, by its judgement: it feeds address, size, type, pattern while the checksum is on
+unfoldable pub fillDone : Judged → Bool → ℕ → ℕ → ℕ → ℕ → ℕ → Done
+fillDone judged on register address size kind pattern =
+    doneIf judged register event.Nothing (pick on (fedWords register (address ∷ size ∷ kind ∷ pattern ∷ [])) register)
 
-unfoldable pub fillMemory : List Window → List ℕ → ℕ → ℕ → ℕ → ℕ → List ℕ
-fillMemory windows memory address size kind pattern =
-    memoryIf (fillJudged windows address size kind) (λ place. typeFilled memory place size (unitOf kind) pattern) memory
+unfoldable pub fillMemory : Judged → List ℕ → ℕ → ℕ → ℕ → List ℕ
+fillMemory judged memory size kind pattern = memoryIf judged (λ place. typeFilled memory place size (unitOf kind) pattern) memory
 
 -- Boot Table's type word: bits 0-7 the kind, 8-15 START, 16-23 STOP
 abbrev pub startOf : ℕ → ℕ
@@ -161,23 +164,21 @@ abbrev pub shapeSet : List ℕ → ℕ → Shape → ℕ → List ℕ
 shapeSet memory place Wrong value = memory
 shapeSet memory place (Bits unit start width field) value = fieldWritten memory place unit start width value
 
--- Boot Table: event wait; it feeds nothing
-unfoldable pub settingDone : List Window → ℕ → ℕ → ℕ → ℕ → ℕ → Done
-settingDone windows register word address value delay =
-    doneIf (settingJudged windows word address value) register (event.Wait delay) register
+-- Boot Table, by its judgement: event wait; it feeds nothing
+unfoldable pub settingDone : Judged → ℕ → ℕ → Done
+settingDone judged register delay = doneIf judged register (event.Wait delay) register
 
-unfoldable pub settingMemory : List Window → List ℕ → ℕ → ℕ → ℕ → List ℕ
-settingMemory windows memory word address value =
-    memoryIf (settingJudged windows word address value) (λ place. shapeSet memory place (shapeOf word) value) memory
+unfoldable pub settingMemory : Judged → List ℕ → ℕ → ℕ → List ℕ
+settingMemory judged memory word value = memoryIf judged (λ place. shapeSet memory place (shapeOf word) value) memory
 
 -- an entry address: 10 where it is not a multiple of 4, or not in an entry window
 unfoldable pub entryJudged : List Window → ℕ → Judged
 entryJudged windows address =
     pick (not (multiple address 4)) (Refused refusal.Entry) (placed refusal.Entry (placeOf windows right.Entry address 0))
 
--- Jump & Close: event enter
-unfoldable pub closeDone : List Window → ℕ → ℕ → Done
-closeDone windows register address = doneIf (entryJudged windows address) register (event.Enter address) register
+-- Jump & Close, by its judgement: event enter
+unfoldable pub closeDone : Judged → ℕ → ℕ → Done
+closeDone judged register address = doneIf judged register (event.Enter address) register
 
 -- where a flash Request's seek leads: the seek is added modulo 2^32 to the offset after it, 12 bytes past the Request's opcode
 unfoldable pub target : ℕ → ℕ → ℕ

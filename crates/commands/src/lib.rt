@@ -12,6 +12,7 @@ ghost use Rattle.commands.specs.Commands.{
   rangeJudged,
   doneIf,
   memoryIf,
+  barred,
   loadJudged,
   loaded,
   wordsFed,
@@ -19,6 +20,7 @@ ghost use Rattle.commands.specs.Commands.{
   unitOf,
   unitsJudged,
   typeJudged,
+  fillJudged,
   filled,
   typeFilled,
   fillDone,
@@ -28,6 +30,7 @@ ghost use Rattle.commands.specs.Commands.{
   shapeOf,
   tooWide,
   shapeJudged,
+  settingJudged,
   shapeSet,
   settingDone,
   settingMemory,
@@ -99,6 +102,26 @@ fn answer(judged: Judged, register: u32, event: Event, fed: u32) -> Done
             register,
         },
     }
+}
+
+// A later refusal of a command that was judged: given where its test holds, unless one was given before.
+pub fn bar(judged: Judged, test: bool, refusal: Refusal) -> Judged
+    ensures { λ r. ⌜ r ≡ barred test refusal judged ⌝ }
+{
+    match judged {
+        Judged::Granted(_) => barred_if(judged, test, refusal),
+        Judged::Refused(first) => Judged::Refused(first),
+    }
+}
+
+// The refusal where the test holds.
+fn barred_if(judged: Judged, test: bool, refusal: Refusal) -> Judged
+    ensures { λ r. ⌜ r ≡ pick test (Judged.Refused refusal) judged ⌝ }
+{
+    if test {
+        return Judged::Refused(refusal);
+    }
+    judged
 }
 
 // Is a load of `size` bytes at an address granted?
@@ -234,13 +257,20 @@ fn judge_units(windows: [Window; 8], right: Right, unit: Unit, address: u32, siz
     judge_range(windows, right, address, size)
 }
 
-fn judge_fill(windows: [Window; 8], address: u32, size: u32, kind: UnitType) -> Judged
+fn judge_type(windows: [Window; 8], address: u32, size: u32, kind: UnitType) -> Judged
     ensures { λ r. ⌜ r ≡ typeJudged windows address size kind ⌝ }
 {
     match kind {
         UnitType::Other => Judged::Refused(Refusal::TypeWord),
         UnitType::Of(unit) => judge_units(windows, Right::Load, unit, address, size),
     }
+}
+
+// Is a fill of `size` bytes at an address granted?
+pub fn judge_fill(windows: [Window; 8], address: u32, size: u32, kind: u32) -> Judged
+    ensures { λ r. ⌜ r ≡ fillJudged windows address size kind ⌝ }
+{
+    judge_type(windows, address, size, unit_of(kind))
 }
 
 // The word that has the low unit of a pattern in each of its places.
@@ -314,10 +344,10 @@ fn feed_fill(on: bool, register: u32, address: u32, size: u32, kind: u32, patter
     register
 }
 
-// Fill.
+// Does a fill that was judged.
 pub fn fill(
-    windows: [Window; 8],
     memory: &mut [u8],
+    judged: Judged,
     on: bool,
     register: u32,
     address: u32,
@@ -325,12 +355,10 @@ pub fn fill(
     kind: u32,
     pattern: u32,
 ) -> Done
-    ensures { λ r. ⌜ r ≡ fillDone windows on register address size kind pattern ⌝ }
-    ensures { λ _. ⌜ now (memory .exit) ≡ fillMemory windows (now (memory .entry)) address size kind pattern ⌝ }
+    ensures { λ r. ⌜ r ≡ fillDone judged on register address size kind pattern ⌝ }
+    ensures { λ _. ⌜ now (memory .exit) ≡ fillMemory judged (now (memory .entry)) size kind pattern ⌝ }
 {
-    let unit = unit_of(kind);
-    let judged = judge_fill(windows, address, size, unit);
-    fill_range(memory, judged, size, unit, pattern);
+    fill_range(memory, judged, size, unit_of(kind), pattern);
     let fed = feed_fill(on, register, address, size, kind, pattern);
     answer(judged, register, Event::Nothing, fed)
 }
@@ -407,6 +435,13 @@ fn judge_shape(windows: [Window; 8], shape: Shape, address: u32, value: u32) -> 
     }
 }
 
+// Is a Boot Table of a type word, an address and its data granted?
+pub fn judge_setting(windows: [Window; 8], word: u32, address: u32, value: u32) -> Judged
+    ensures { λ r. ⌜ r ≡ settingJudged windows word address value ⌝ }
+{
+    judge_shape(windows, shape_of(word), address, value)
+}
+
 // Sets the bits of a shape where the command is granted.
 fn set_shape(memory: &mut [u8], judged: Judged, shape: Shape, value: u32)
     ensures { λ _. ⌜ now (memory .exit) ≡ memoryIf judged (λ place. shapeSet (now (memory .entry)) place shape value) (now (memory .entry)) ⌝ }
@@ -422,26 +457,24 @@ fn set_shape(memory: &mut [u8], judged: Judged, shape: Shape, value: u32)
     }
 }
 
-// Boot Table.
+// Does a Boot Table that was judged.
 pub fn boot_table(
-    windows: [Window; 8],
     memory: &mut [u8],
+    judged: Judged,
     register: u32,
     word: u32,
-    address: u32,
     value: u32,
     delay: u32,
 ) -> Done
-    ensures { λ r. ⌜ r ≡ settingDone windows register word address value delay ⌝ }
-    ensures { λ _. ⌜ now (memory .exit) ≡ settingMemory windows (now (memory .entry)) word address value ⌝ }
+    ensures { λ r. ⌜ r ≡ settingDone judged register delay ⌝ }
+    ensures { λ _. ⌜ now (memory .exit) ≡ settingMemory judged (now (memory .entry)) word value ⌝ }
 {
-    let shape = shape_of(word);
-    let judged = judge_shape(windows, shape, address, value);
-    set_shape(memory, judged, shape, value);
+    set_shape(memory, judged, shape_of(word), value);
     answer(judged, register, Event::Wait(delay), register)
 }
 
-fn judge_entry(windows: [Window; 8], address: u32) -> Judged
+// May an address be entered?
+pub fn judge_entry(windows: [Window; 8], address: u32) -> Judged
     ensures { λ r. ⌜ r ≡ entryJudged windows address ⌝ }
 {
     if address % 4 != 0 {
@@ -454,16 +487,11 @@ fn judge_entry(windows: [Window; 8], address: u32) -> Judged
     }
 }
 
-// Jump & Close.
-pub fn jump_and_close(windows: [Window; 8], register: u32, address: u32) -> Done
-    ensures { λ r. ⌜ r ≡ closeDone windows register address ⌝ }
+// The answer to a Jump & Close that was judged.
+pub fn jump_and_close(judged: Judged, register: u32, address: u32) -> Done
+    ensures { λ r. ⌜ r ≡ closeDone judged register address ⌝ }
 {
-    answer(
-        judge_entry(windows, address),
-        register,
-        Event::Enter(address),
-        register,
-    )
+    answer(judged, register, Event::Enter(address), register)
 }
 
 // Where the seek of a flash Request leads: counted from the offset after it, 12 bytes past the opcode.

@@ -91,16 +91,14 @@ setting-does m place word value {unit} {start} {width} {field} e fit =
     rw e (field-does m place unit start width field value (shape-lies word e) fit)
 
 -- a refused command leaves memory as it was
-module _ (windows : List Window) (m : List ℕ) where
-  pub fill-refused : (address size kind pattern : ℕ) {q : Refusal} → fillJudged windows address size kind ≡ Refused q
-      → fillMemory windows m address size kind pattern ≡ m
+module _ (m : List ℕ) {judged : Judged} {q : Refusal} (refused : judged ≡ Refused q) where
+  pub fill-refused : (size kind pattern : ℕ) → fillMemory judged m size kind pattern ≡ m
   unfolding fillMemory
-  fill-refused address size kind pattern e = rw e
+  fill-refused size kind pattern = rw refused
 
-  pub setting-refused : (word address value : ℕ) {q : Refusal} → settingJudged windows word address value ≡ Refused q
-      → settingMemory windows m word address value ≡ m
+  pub setting-refused : (word value : ℕ) → settingMemory judged m word value ≡ m
   unfolding settingMemory
-  setting-refused word address value e = rw e
+  setting-refused word value = rw refused
 
 -- what is granted past a refusal is granted
 past-refusal : (t : Bool) (q : Refusal) {judged : Judged} {place : ℕ} → pick t (Refused q) judged ≡ Granted place → judged ≡ Granted place
@@ -141,9 +139,9 @@ module _ (windows : List Window) (m : List ℕ) (lent : length m ≡ sumOf windo
       record { does = fill-does m place size unit pattern; lies = omega (arith, units-inside _ unit address size e) }
 
   pub fill-granted : (address size kind pattern : ℕ) {place : ℕ} → fillJudged windows address size kind ≡ Granted place
-      → DoesInside (fillEffect place size (unitOf kind) pattern) m (fillMemory windows m address size kind pattern)
+      → DoesInside (fillEffect place size (unitOf kind) pattern) m (fillMemory (Granted place) m size kind pattern)
   unfolding fillJudged fillMemory
-  fill-granted address size kind pattern e = rw e (type-granted (unitOf kind) address size pattern e)
+  fill-granted address size kind pattern e = type-granted (unitOf kind) address size pattern e
 
   -- a shape that is granted is not wrong, and its unit lies inside the memory
   shape-granted : (shape : Shape) → Lies shape → (address value : ℕ) {place : ℕ}
@@ -155,10 +153,9 @@ module _ (windows : List Window) (m : List ℕ) (lent : length m ≡ sumOf windo
       record { does = field-does m place unit start width field value lie fit; lies = omega arith }
 
   pub setting-granted : (word address value : ℕ) {place : ℕ} → settingJudged windows word address value ≡ Granted place
-      → DoesInside (settingEffect place (shapeOf word) value) m (settingMemory windows m word address value)
+      → DoesInside (settingEffect place (shapeOf word) value) m (settingMemory (Granted place) m word value)
   unfolding settingMemory
-  setting-granted word address value e =
-      rw e (shape-granted (shapeOf word) (every-shape-lies word) address value e)
+  setting-granted word address value e = shape-granted (shapeOf word) (every-shape-lies word) address value e
 
 -- a number below a power of two is told by its bits below it
 pub bits-tell : (k a b : ℕ) → a < 2 ^ k → b < 2 ^ k → ((j : ℕ) → j < k → bit a j ≡ bit b j) → a ≡ b

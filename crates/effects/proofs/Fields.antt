@@ -63,7 +63,7 @@ module _ (windows : List Window) (word address value : ℕ) (named : NamesField 
 
   module _ (m : List ℕ) (lent : length m ≡ sumOf windows) {place : ℕ} (granted : settingJudged windows word address value ≡ Granted place) where
     abbrev left : List ℕ
-    left = settingMemory windows m word address value
+    left = settingMemory (Granted place) m word value
 
     does : DoesInside (settingEffect place field value) m left
     does = subst (λ (s : Shape). DoesInside (settingEffect place s value) m left) named-shape (setting-granted windows m lent word address value granted)
@@ -152,7 +152,7 @@ field-laws =
       accepted = λ windows m lent word address value place named granted. named-holds windows word address value named m lent granted;
       too-wide = λ windows word address value named h. named-too-wide windows word address value named h;
       only-too-wide = setting-case;
-      nothing-done = λ windows m register word address value delay e. (setting-refused windows m word address value e, rw e);
+      nothing-done = λ m register word value delay. (setting-refused m {q = refusal.TooWide} refl word value, refl);
       seven = refl;
       eight = refl;
       byte-of-more = λ a b c d. ap (λ (x : ℕ). x ∷ b ∷ c ∷ d ∷ []) (omega arith);

@@ -43,18 +43,18 @@ pub record FieldLaws : Type 0 where
   -- after an accepted setting of a field
   pub accepted : (windows : List Window) (memory : List ℕ) → length memory ≡ sumOf windows
       → (word address value place : ℕ) → NamesField word → settingJudged windows word address value ≡ Granted place
-      → Holds word place value memory (settingMemory windows memory word address value)
+      → Holds word place value memory (settingMemory (Granted place) memory word value)
   -- 16 where the data have a bit at or above the field's width, and only there
   pub too-wide : (windows : List Window) (word address value : ℕ) → NamesField word → 2 ^ fieldWidth word ≤ value
       → settingJudged windows word address value ≡ Refused TooWide
   pub only-too-wide : (windows : List Window) (word address value : ℕ) → settingJudged windows word address value ≡ Refused TooWide
       → NamesField word × (2 ^ fieldWidth word ≤ value)
   -- nothing is written then, and there is no wait
-  pub nothing-done : (windows : List Window) (memory : List ℕ) (register word address value delay : ℕ)
-      → settingJudged windows word address value ≡ Refused TooWide
-      → (settingMemory windows memory word address value ≡ memory) × (settingDone windows register word address value delay .event ≡ Nothing)
+  pub nothing-done : (memory : List ℕ) (register word value delay : ℕ)
+      → (settingMemory (Refused TooWide) memory word value ≡ memory) × (settingDone (Refused TooWide) register delay .event ≡ Nothing)
   -- three bits hold 7 and not 8
   pub seven : settingJudged optionWord 0x00060403 0x80000000 7 ≡ Granted 0
   pub eight : judgedNumber (settingJudged optionWord 0x00060403 0x80000000 8) ≡ 16
   -- a byte takes the low bits of 0x1FF
-  pub byte-of-more : (a b c d : ℕ) → settingMemory optionWord (a ∷ b ∷ c ∷ d ∷ []) 0x00000000 0x80000000 0x1FF ≡ 0xFF ∷ b ∷ c ∷ d ∷ []
+  pub byte-of-more : (a b c d : ℕ)
+      → settingMemory (settingJudged optionWord 0x00000000 0x80000000 0x1FF) (a ∷ b ∷ c ∷ d ∷ []) 0x00000000 0x1FF ≡ 0xFF ∷ b ∷ c ∷ d ∷ []

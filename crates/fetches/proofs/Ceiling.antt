@@ -14,6 +14,7 @@ use Rattle.windows.specs.Map.{soundWindow, allSound, rising, goodMap, keptOf}
 use Rattle.windows.specs.Window.{hasRight, inside, grantsRange, placeFrom, placeOf, sumOf}
 use Rattle.windows.specs.declared.Window.{Window}
 use Rattle.script.specs.Opcodes.{rows, rowServes, foundIn, lookedUp}
+use Rattle.script.specs.declared.Dialect.{Dialect}
 use Rattle.commands.specs.Commands.{multiple, entryJudged, closeDone}
 use Rattle.flash.specs.Opening.{goodLength, openedBy}
 use Rattle.flash.specs.Reached.{Reached, opened, called}
@@ -44,10 +45,10 @@ always : {s : Session} (reached : Reached s) → s .fetched ≤ ceiling (limitOf
 always reached = omega (arith, few reached, standing-always (reached-standing reached))
 
 -- an opening, refused or not, is within it
-pub opened-within : (count : ℕ) (windows : List Window) (image : List ℕ) (limit : ℕ)
-    → openedBy count windows image limit .session .fetched ≤ ceiling limit (length image / 4)
+pub opened-within : (dialect : Dialect) (count : ℕ) (windows : List Window) (image : List ℕ) (limit : ℕ)
+    → openedBy dialect count windows image limit .session .fetched ≤ ceiling limit (length image / 4)
 unfolding limitOf wordsOf
-opened-within count windows image limit = always (opened count windows image limit)
+opened-within dialect count windows image limit = always (opened dialect count windows image limit)
 
 -- a session that was opened with a limit on an image of so many words
 record From (limit words : ℕ) (s : Session) : Type 0 where
@@ -72,21 +73,21 @@ module _ {limit words : ℕ} (image : List ℕ) where
   carried (suc n) o before =
       of-choice (λ (x : Outcome). From limit words (x .answer .session)) _ (λ more. carried n _ (next (o .memory) before)) (λ none. before)
 
-ran : (count : ℕ) (windows : List Window) (image : List ℕ) (limit : ℕ) (m : List ℕ)
-    → From limit (length image / 4) (runOf (openedBy count windows image limit .session) m image .answer .session)
+ran : (dialect : Dialect) (count : ℕ) (windows : List Window) (image : List ℕ) (limit : ℕ) (m : List ℕ)
+    → From limit (length image / 4) (runOf (openedBy dialect count windows image limit .session) m image .answer .session)
 unfolding runOf limitOf wordsOf
-ran count windows image limit m =
-    let s = openedBy count windows image limit .session in
+ran dialect count windows image limit m =
+    let s = openedBy dialect count windows image limit .session in
     carried image (enough s) (stepOf s m image)
-    (next image m (record { reached = opened count windows image limit; same-limit = refl; same-words = refl }))
+    (next image m (record { reached = opened dialect count windows image limit; same-limit = refl; same-words = refl }))
 
 pub ceilings : Ceiling
 ceilings =
     record {
       running = λ reached e. omega (arith, few reached, standing-running (reached-standing reached) e);
       always = always;
-      run = λ count windows image limit m.
-          let from = ran count windows image limit m in
+      run = λ dialect count windows image limit m.
+          let from = ran dialect count windows image limit m in
           omega (arith, always (from .reached), ap₂ ceiling (from .same-limit) (from .same-words));
     }
 

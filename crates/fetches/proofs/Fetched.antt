@@ -19,6 +19,7 @@ use Rattle.script.specs.declared.Refusal.{Refusal}
 use Rattle.script.specs.declared.Refusal.the-variants.{None, Map, Image, Magic, Ended}
 use Rattle.commands.specs.Commands.{multiple}
 use Rattle.flash.specs.Calls.{met, Reads, Forward, Back, Kept, spares, Way, forward, back, kept, Call}
+use Rattle.script.specs.declared.Dialect.{Dialect}
 use Rattle.flash.specs.Opening.{goodLength, openedBy}
 use Rattle.flash.specs.Reached.{Reached, opened, called}
 use Rattle.flash.specs.Sessions.{Outcome, countedOn}
@@ -87,20 +88,20 @@ one-where-begun : openingFetches None ≡ 1
 one-where-begun = passed _ _ _ refl
 
 -- the count since the opening is the sum, as far as 32 bits hold it
-opened-counts : (count : ℕ) (windows : List Window) (image : List ℕ) (limit : ℕ)
-    → openedBy count windows image limit .session .fetched ≡ openingFetches (openedBy count windows image limit .refusal)
+opened-counts : (dialect : Dialect) (count : ℕ) (windows : List Window) (image : List ℕ) (limit : ℕ)
+    → openedBy dialect count windows image limit .session .fetched ≡ openingFetches (openedBy dialect count windows image limit .refusal)
 unfolding openedBy
-opened-counts count windows image limit =
+opened-counts dialect count windows image limit =
     let Counts : Opened → Type 0 = λ o. o .session .fetched ≡ openingFetches (o .refusal) in
     of-choice Counts _ (λ e. sym none-for-map)
     (λ e. of-choice Counts _ (λ e. sym none-for-image) (λ e. of-choice Counts _ (λ e. sym one-for-magic) (λ e. sym one-where-begun)))
 
 pub reached-counts : {s : Session} (reached : Reached s) → s .fetched ≡ countedOn 0 (prescribed reached)
 unfolding prescribed countedOn
-reached-counts (opened count windows image limit) =
-    let few : openingFetches (openedBy count windows image limit .refusal) ≤ 1 =
+reached-counts (opened dialect count windows image limit) =
+    let few : openingFetches (openedBy dialect count windows image limit .refusal) ≤ 1 =
     of-choice (λ (n : ℕ). n ≤ 1) _ (λ e. omega arith) (λ e. omega arith) in
-    opened-counts count windows image limit ∙ omega (arith, few)
+    opened-counts dialect count windows image limit ∙ omega (arith, few)
 reached-counts (called {s} lent before) =
     let more = callFetches s (lent .image) (stepOf s (lent .memory) (lent .image) .answer .refusal) in
     way-counts s (lent .image) (every-call s (lent .memory) (lent .image) .way)
@@ -205,10 +206,10 @@ length-least : (n : ℕ) → goodLength n ≡ true → 4 ≤ n
 unfolding goodLength
 length-least n e = leb-true _ _ (both (multiple n 4) (leb 4 n) (both (multiple n 4 && leb 4 n) (leb n 65536) e .0) .1)
 
-opened-standing : (count : ℕ) (windows : List Window) (image : List ℕ) (limit : ℕ)
-    → Standing (openedBy count windows image limit .session) (openingFetches (openedBy count windows image limit .refusal)) limit (length image / 4)
+opened-standing : (dialect : Dialect) (count : ℕ) (windows : List Window) (image : List ℕ) (limit : ℕ)
+    → Standing (openedBy dialect count windows image limit .session) (openingFetches (openedBy dialect count windows image limit .refusal)) limit (length image / 4)
 unfolding openedBy
-opened-standing count windows image limit =
+opened-standing dialect count windows image limit =
     let Stands : Opened → Type 0 = λ o. Standing (o .session) (openingFetches (o .refusal)) limit (length image / 4) in
     of-choice Stands _ (λ e. shut refl (omega (arith, none-for-map)) (omega (arith, none-for-map)))
     (λ e. of-choice Stands _ (λ e. shut refl (omega (arith, none-for-image)) (omega (arith, none-for-image)))
@@ -228,7 +229,7 @@ opened-standing count windows image limit =
 
 pub reached-standing : {s : Session} (reached : Reached s) → Standing s (prescribed reached) (limitOf reached) (wordsOf reached)
 unfolding prescribed limitOf wordsOf
-reached-standing (opened count windows image limit) = opened-standing count windows image limit
+reached-standing (opened dialect count windows image limit) = opened-standing dialect count windows image limit
 reached-standing (called {s} lent before) = go (reached-standing before)
   where
     go : Standing s (prescribed before) (limitOf before) (wordsOf before)

@@ -6,6 +6,8 @@ use mathlib.Core.Path.{_≡_}
 use lib.ListN.{length, replicate}
 use Rattle.windows.specs.Map.{zeroWindow}
 use Rattle.windows.specs.declared.Window.{Window}
+use Rattle.script.specs.declared.Dialect.{Dialect}
+use Rattle.script.specs.declared.Dialect.the-variants.{Am17xx}
 use Rattle.flash.specs.Opening.{openedBy}
 use Rattle.flash.specs.Reached.{Reached, opened, called}
 use Rattle.flash.specs.Step.{stepOf}
@@ -15,7 +17,7 @@ use Rattle.fetches.specs.Fetched.{limitOf}
 
 -- the words of the image that was lent to the opening
 unfoldable pub wordsOf : {s : Session} → Reached s → ℕ
-wordsOf (opened count windows image limit) = length image / 4
+wordsOf (opened dialect count windows image limit) = length image / 4
 wordsOf (called lent before) = wordsOf before
 
 -- an image of so many words, with a retry limit
@@ -28,8 +30,8 @@ pub record Ceiling : Type 0 where
   -- always
   pub always : {s : Session} (reached : Reached s) → s .fetched ≤ ceiling (limitOf reached) (wordsOf reached)
   -- so also for a run of one unchanged image
-  pub run : (count : ℕ) (windows : List Window) (image : List ℕ) (limit : ℕ) (m : List ℕ)
-      → runOf (openedBy count windows image limit .session) m image .answer .session .fetched ≤ ceiling limit (length image / 4)
+  pub run : (dialect : Dialect) (count : ℕ) (windows : List Window) (image : List ℕ) (limit : ℕ) (m : List ℕ)
+      → runOf (openedBy dialect count windows image limit .session) m image .answer .session .fetched ≤ ceiling limit (length image / 4)
 
 -- an image of three words with no retry: the magic word, a Jump & Close, its address
 abbrev pub threeWords : List ℕ
@@ -37,7 +39,7 @@ threeWords = 0x54 ∷ 0x49 ∷ 0x50 ∷ 0x41 ∷ 0x06 ∷ 0x59 ∷ 0x53 ∷ 0x58
 
 -- it is opened on a window of four bytes, and entered
 abbrev pub atOpening : Session
-atOpening = openedBy 1 (record { first = 0x80000000; length = 4; rights = 7 } ∷ replicate 7 zeroWindow) threeWords 0 .session
+atOpening = openedBy Am17xx 1 (record { first = 0x80000000; length = 4; rights = 7 } ∷ replicate 7 zeroWindow) threeWords 0 .session
 
 abbrev pub atEnd : Session
 atEnd = stepOf atOpening (replicate 4 0) threeWords .answer .session

@@ -34,17 +34,17 @@ loadWords (Known command arguments) s image = dataWords command s image
 unfoldable pub callFetches : Session → List ℕ → Refusal → ℕ
 callFetches s image q =
     pick (spares q) 0
-    (met s image + pick (eqb (numberOf q) 0) (loadWords (lookedUp (wordAt image (s .offset)) Flash) s image) 0)
+    (met s image + pick (eqb (numberOf q) 0) (loadWords (lookedUp (wordAt image (s .offset)) Flash (s .dialect)) s image) 0)
 
 -- the sum over an opening and any calls, each on the image as it was lent
 unfoldable pub prescribed : {s : Session} → Reached s → ℕ
-prescribed (opened count windows image limit) = openingFetches (openedBy count windows image limit .refusal)
+prescribed (opened dialect count windows image limit) = openingFetches (openedBy dialect count windows image limit .refusal)
 prescribed (called {s} lent before) =
     prescribed before + callFetches s (lent .image) (stepOf s (lent .memory) (lent .image) .answer .refusal)
 
 -- the retry limit that the opening was given
 unfoldable pub limitOf : {s : Session} → Reached s → ℕ
-limitOf (opened count windows image limit) = limit
+limitOf (opened dialect count windows image limit) = limit
 limitOf (called lent before) = limitOf before
 
 pub record CountsAsPrescribed : Type 0 where

@@ -1,6 +1,6 @@
 -- The law of a call, by the cases of the rules: the words that the table gives a command are those that it passes and fetches, and a command that was judged
 -- is accepted or ends the session.
-use Prim.Native.Nat.{ℕ, _+_, _*_, _/_, _≤_, _<_, min}
+use Prim.Native.Nat.{ℕ, _+_, _*_, _≤_, _<_, min}
 use mathlib.Core.Bool.{Bool, true, false, _||_, true≢false}
 use mathlib.Core.List.{List}
 use mathlib.Core.Logic.{_≢_}
@@ -16,6 +16,8 @@ use Rattle.script.specs.Answers.{numberOf, kindOf}
 use Rattle.script.specs.Opcodes.{lookedUp}
 use Rattle.script.specs.declared.Command.{Command}
 use Rattle.script.specs.declared.Command.the-variants as command
+use Rattle.script.specs.declared.Dialect.{Dialect}
+use Rattle.script.specs.declared.Dialect.the-variants.{Am17xx, Dm648}
 use Rattle.script.specs.declared.Event.{Event}
 use Rattle.script.specs.declared.Found.{Found}
 use Rattle.script.specs.declared.Found.the-variants.{Known, Retired, Unknown}
@@ -23,16 +25,20 @@ use Rattle.script.specs.declared.Mode.the-variants.{Flash}
 use Rattle.script.specs.declared.Refusal.{Refusal}
 use Rattle.script.specs.declared.Refusal.the-variants as refusal
 use Rattle.script.proofs.Counts.{rowIs, row-is}
+use Rattle.totals.specs.Agreement.{section, inFlash}
+use Rattle.totals.specs.Totals.{differs}
+use Rattle.totals.specs.declared.Totals.{Totals}
+use Rattle.commands.specs.Commands.{judgedNumber}
 use Rattle.commands.specs.declared.Done.{Done}
 use Rattle.commands.specs.declared.Judged.{Judged}
 use Rattle.commands.specs.declared.Sought.{Sought}
-use Rattle.flash.specs.Calls.{dataWords, argumentWords, met, Reads, spares, Way, forward, back, kept, Call, EveryCall}
+use Rattle.flash.specs.Calls.{dataWords, happening, Fits, argumentWords, met, Reads, spares, Way, forward, back, kept, Call, EveryCall}
 use Rattle.flash.specs.Opening.{goodLength}
 use Rattle.flash.specs.Sessions.{Outcome, changed, countedOn, fetching, unchanged, stopped, accepted}
-use Rattle.flash.specs.Step.{present, wordsFrom, argument, after, loadAt, loadJudgedAs, soughtAs, requested, entered, performed, atRow, stepOf}
+use Rattle.flash.specs.Step.{present, wordsFrom, argument, after, overflowing, loadAt, loadJudgedAs, soughtAs, requested, named, closeWords, entered, performed, atRow, stepOf}
 use Rattle.flash.specs.declared.Called.{Called}
 use Rattle.flash.specs.declared.Session.{Session}
-use Rattle.flash.proofs.Verdicts.{Ending, ends, Judges, grants, denies, load-judges, Answers, accepts, rejects, fill-answers, setting-answers, close-answers, Leads, leads, astray, seek-leads}
+use Rattle.flash.proofs.Verdicts.{Ending, ends, Judges, grants, denies, load-judges, fill-judges, setting-judges, entry-judges, barred-judges, test-failed, fill-number, close-number, Answers, accepts, rejects, fill-answers, setting-answers, close-answers, Leads, leads, astray, seek-leads}
 
 -- words are there up to an offset
 there : (image : List ℕ) (at n : ℕ) → present image at n ≡ true → at + 4 * n ≤ length image
@@ -53,6 +59,12 @@ pub counted-both : (fetched first second : ℕ) → countedOn (countedOn fetched
 unfolding countedOn
 counted-both fetched first second = omega arith
 
+-- the words of Jump & Close are its opcode and those of its row
+close-count : (dialect : Dialect) (n : ℕ) → rowIs Flash dialect command.JumpAndClose n ≡ true → closeWords dialect ≡ 1 + n
+unfolding rowIs
+close-count Am17xx n row = let one = eqb-true n 1 row in omega arith
+close-count Dm648 n row = let three = eqb-true n 3 row in omega arith
+
 -- a refusal that ends the session is not 14
 pub not-over : (q : Refusal) → spares q ≡ false → eqb (numberOf q) 14 ≡ false
 not-over q = last (eqb (numberOf q) 2 || eqb (numberOf q) 3) (eqb (numberOf q) 14)
@@ -63,11 +75,12 @@ not-over q = last (eqb (numberOf q) 2 || eqb (numberOf q) 3) (eqb (numberOf q) 1
 
 module _ (s : Session) (image : List ℕ) where
   -- an answer with what a call may change of the session
-  answered : {q : Refusal} {told : Event} {at : ℕ} {over switch : Bool} {register offset retries fetched : ℕ}
-      → Way s image (record { refusal = q; event = told; at = at; session = changed s over switch register offset retries fetched })
+  answered : {q : Refusal} {told : Event} {at : ℕ} {over switch : Bool} {register offset retries fetched : ℕ} {totals : Totals}
+      → Way s image (record { refusal = q; event = told; at = at; session = changed s over switch register offset retries fetched totals })
       → eqb (numberOf q) 14 ≡ s .ended → at ≡ pick (spares q) 0 (s .offset)
-      → Call s image (record { refusal = q; event = told; at = at; session = changed s over switch register offset retries fetched })
-  answered way over at = record { way = way; same-windows = refl; same-length = refl; same-limit = refl; over = over; at = at }
+      → Call s image (record { refusal = q; event = told; at = at; session = changed s over switch register offset retries fetched totals })
+  answered way over at =
+      record { way = way; same-windows = refl; same-length = refl; same-limit = refl; same-dialect = refl; over = over; at = at }
 
   -- refused, the session spared
   spared : (q : Refusal) → spares q ≡ true → numberOf q ≢ 0 → eqb (numberOf q) 14 ≡ s .ended → Call s image (unchanged q s)
@@ -78,6 +91,8 @@ module _ (s : Session) (image : List ℕ) where
         refused = low;
         offset = refl;
         retries = refl;
+        totals = refl;
+        no-event = refl;
         spared = λ e. refl;
         fetched = λ e. absurd (true≢false (sym spare ∙ e));
         ended = λ e. absurd (true≢false (sym spare ∙ e));
@@ -89,15 +104,19 @@ module _ (s : Session) (image : List ℕ) where
   unfolding met wordsFrom
   met-none h = omega arith
 
-  met-found : {found : Found} → lookedUp (wordAt image (s .offset)) Flash ≡ found → s .offset + 4 ≤ length image
+  met-found : {found : Found} → lookedUp (wordAt image (s .offset)) Flash (s .dialect) ≡ found → s .offset + 4 ≤ length image
       → met s image ≡ 1 + min (argumentWords found) (wordsFrom image (s .offset + 4))
   unfolding met wordsFrom
   met-found e h = rw e (omega arith)
 
+  -- the totals that a command leaves where it goes forward: those that its happening says, and no section passes the largest
+  abbrev Tallied : Command → Totals → Type 0
+  Tallied c totals = (totals ≡ inFlash (s .dialect) (s .totals) (happening c (argument s image 1))) × Fits s (happening c (argument s image 1))
+
   module _ (standing : s .ended ≡ false) where
     -- refused, the session ended
     stops : (q : Refusal) {switch : Bool} {register fetched : ℕ} → Ending q → fetched ≡ countedOn (s .fetched) (met s image)
-        → Call s image (stopped q (changed s (s .ended) switch register (s .offset) (s .retries) fetched))
+        → Call s image (stopped q (changed s (s .ended) switch register (s .offset) (s .retries) fetched (s .totals)))
     stops q e all =
         answered
         (kept
@@ -105,6 +124,8 @@ module _ (s : Session) (image : List ℕ) where
           refused = e .refused;
           offset = refl;
           retries = refl;
+          totals = refl;
+          no-event = refl;
           spared = λ spare. absurd (true≢false (sym spare ∙ e .unspared));
           fetched = λ e. all;
           ended = λ e. refl;
@@ -112,10 +133,11 @@ module _ (s : Session) (image : List ℕ) where
         (not-over q (e .unspared) ∙ sym standing) (sym (passed _ _ _ (e .unspared)))
 
     -- accepted, past the words of the command
-    passes : {c : Command} {words : ℕ} {told : Event} {over switch : Bool} {register offset fetched : ℕ} → Reads s image c words
-        → offset ≡ s .offset + 4 * words → fetched ≡ countedOn (s .fetched) words → over ≡ eqb (kindOf told) 3 → (kindOf told ≡ 3 → c ≡ command.JumpAndClose)
-        → Call s image (accepted s told (changed s over switch register offset (s .retries) fetched))
-    passes {c} {words} reads past all ended entering =
+    passes : {c : Command} {words : ℕ} {told : Event} {over switch : Bool} {register offset fetched : ℕ} {totals : Totals} → Reads s image c words
+        → offset ≡ s .offset + 4 * words → fetched ≡ countedOn (s .fetched) words → Tallied c totals → over ≡ eqb (kindOf told) 3
+        → (kindOf told ≡ 3 → (c ≡ command.JumpAndClose) × (differs (s .dialect) (s .totals) (named s image) ≡ false))
+        → Call s image (accepted s told (changed s over switch register offset (s .retries) fetched totals))
+    passes {c} {words} reads past all tallied ended entering =
         answered
         (forward
         (record {
@@ -126,16 +148,19 @@ module _ (s : Session) (image : List ℕ) where
           offset = past;
           fetched = all;
           retries = refl;
+          totals = tallied .0;
+          fits = tallied .1;
           ended = ended;
-          entering = entering;
+          entering = λ e. entering e .0;
+          naming = λ e. entering e .1;
         }))
         (sym standing) (sym (passed _ _ _ refl))
 
     -- accepted with no event of entering, and going on
-    goes-on : {c : Command} {words : ℕ} {told : Event} {switch : Bool} {register offset fetched : ℕ} → kindOf told ≢ 3 → Reads s image c words
-        → offset ≡ s .offset + 4 * words → fetched ≡ countedOn (s .fetched) words
-        → Call s image (accepted s told (changed s (s .ended) switch register offset (s .retries) fetched))
-    goes-on other reads past all = passes reads past all (standing ∙ sym (ne-eqb _ _ other)) (λ e. absurd (other e))
+    goes-on : {c : Command} {words : ℕ} {told : Event} {switch : Bool} {register offset fetched : ℕ} {totals : Totals} → kindOf told ≢ 3
+        → Reads s image c words → offset ≡ s .offset + 4 * words → fetched ≡ countedOn (s .fetched) words → Tallied c totals
+        → Call s image (accepted s told (changed s (s .ended) switch register offset (s .retries) fetched totals))
+    goes-on other reads past all tallied = passes reads past all tallied (standing ∙ sym (ne-eqb _ _ other)) (λ e. absurd (other e))
 
     -- a command whose opcode and argument words were met, and fetched
     module _ (n : ℕ) (whole : met s image ≡ n) where
@@ -144,25 +169,26 @@ module _ (s : Session) (image : List ℕ) where
 
       -- refused it has fetched these
       denied : (q : Refusal) {switch : Bool} {register : ℕ} → Ending q
-          → Call s image (stopped q (changed fetched (s .ended) switch register (s .offset) (s .retries) (fetched .fetched)))
+          → Call s image (stopped q (changed fetched (s .ended) switch register (s .offset) (s .retries) (fetched .fetched) (s .totals)))
       denied q e = stops q e (ap (countedOn (s .fetched)) (sym whole))
 
       -- that was judged
-      after-call : {c : Command} {kind : ℕ} {done : Done} (words : ℕ) → words ≡ n → kind ≢ 3 → Answers kind done → Reads s image c words
-          → Call s image (after fetched done words)
+      after-call : {c : Command} {kind : ℕ} {done : Done} {totals : Totals} (words : ℕ) → words ≡ n → kind ≢ 3 → Answers kind done
+          → Reads s image c words → (numberOf (done .refusal) ≡ 0 → Tallied c totals) → Call s image (after fetched totals done words)
       unfolding after
-      after-call words all other (accepts e k) reads =
+      after-call words all other (accepts e k) reads tallied =
           subst (Call s image) (sym (chosen _ _ _ (eq-eqb _ _ e)))
-          (goes-on (λ z. other (sym k ∙ z)) reads refl (ap (countedOn (s .fetched)) (sym all)))
-      after-call words all other (rejects e) reads = subst (Call s image) (sym (passed _ _ _ (ne-eqb _ _ (e .refused)))) (denied _ e)
+          (goes-on (λ z. other (sym k ∙ z)) reads refl (ap (countedOn (s .fetched)) (sym all)) (tallied e))
+      after-call words all other (rejects e) reads tallied = subst (Call s image) (sym (passed _ _ _ (ne-eqb _ _ (e .refused)))) (denied _ e)
 
       entered-call : {done : Done} (words : ℕ) → words ≡ n → Answers 3 done → Reads s image command.JumpAndClose words
-          → Call s image (entered (after fetched done words))
+          → (numberOf (done .refusal) ≡ 0 → differs (s .dialect) (s .totals) (named s image) ≡ false)
+          → Call s image (entered (after fetched (s .totals) done words))
       unfolding after
-      entered-call words all (accepts e k) reads =
+      entered-call words all (accepts e k) reads same =
           subst (λ (a : Called). Call s image (entered a)) (sym (chosen _ _ _ (eq-eqb _ _ e)))
-          (passes reads refl (ap (countedOn (s .fetched)) (sym all)) (sym (eq-eqb _ _ k)) (λ z. refl))
-      entered-call words all (rejects e) reads =
+          (passes reads refl (ap (countedOn (s .fetched)) (sym all)) (refl, tt) (sym (eq-eqb _ _ k)) (λ z. (refl, same e)))
+      entered-call words all (rejects e) reads same =
           subst (λ (a : Called). Call s image (entered a)) (sym (passed _ _ _ (ne-eqb _ _ (e .refused)))) (denied _ e)
 
       module _ {words : ℕ} (all : words ≡ n) (reads : Reads s image command.Request words) where
@@ -180,6 +206,8 @@ module _ (s : Session) (image : List ℕ) where
               left = left;
               fetched = ap (countedOn (s .fetched)) (sym all);
               counted = refl;
+              totals = refl;
+              no-event = refl;
               running = standing;
             }))
             (sym standing) (sym (passed _ _ _ refl))
@@ -188,7 +216,7 @@ module _ (s : Session) (image : List ℕ) where
         request-call : (expected seek : ℕ) → words ≡ 3 → Call s image (requested fetched expected seek)
         unfolding requested
         request-call expected seek three =
-            of-choice (Call s image) _ (λ e. goes-on (λ z. omega arith) reads (omega arith) (ap (countedOn (s .fetched)) (sym all)))
+            of-choice (Call s image) _ (λ e. goes-on (λ z. omega arith) reads (omega arith) (ap (countedOn (s .fetched)) (sym all)) (refl, tt))
             (λ e. of-choice (Call s image) _ (λ e. denied refusal.Checksum (ends refusal.Checksum refl))
             (λ e. sought-call (seek-leads (s .offset) seek) (leb-false _ _ e)))
 
@@ -198,7 +226,7 @@ module _ (s : Session) (image : List ℕ) where
       Answered o = Call s image (o .answer)
 
       -- a row that is found, its command's argument words there
-      module _ {c : Command} {arguments : ℕ} (known : lookedUp (wordAt image (s .offset)) Flash ≡ Known c arguments)
+      module _ {c : Command} {arguments : ℕ} (known : lookedUp (wordAt image (s .offset)) Flash (s .dialect) ≡ Known c arguments)
           (here : s .offset + 4 + 4 * arguments ≤ length image) where
         read : (words : ℕ) → words ≡ 1 + arguments + dataWords c s image → s .offset + 4 * words ≤ length image → Reads s image c words
         read words count present = record { arguments = arguments; row = known; count = count; present = present; lent = same }
@@ -207,49 +235,63 @@ module _ (s : Session) (image : List ℕ) where
         unfolding wordsFrom
         whole = met-found known (omega arith) ∙ omega arith
 
-      load-call : {arguments : ℕ} {j : Judged} → lookedUp (wordAt image (s .offset)) Flash ≡ Known command.Load arguments
+      load-call : {arguments : ℕ} {j : Judged} → lookedUp (wordAt image (s .offset)) Flash (s .dialect) ≡ Known command.Load arguments
           → s .offset + 4 + 4 * arguments ≤ length image → arguments ≡ 2 → Judges j
+          → (judgedNumber j ≡ 0 → Fits s (section (argument s image 1)))
           → Answered
           (loadJudgedAs (fetching (1 + arguments) s) m image (argument (fetching (1 + arguments) s) image 0)
           (argument (fetching (1 + arguments) s) image 1) j)
       unfolding loadAt argument
-      load-call {arguments} known here two grants =
+      load-call {arguments} known here two grants fits =
           of-choice Answered _ (λ e. denied (1 + arguments) (whole known here) refusal.Missing (ends refusal.Missing refl))
           (λ e. goes-on (λ z. omega arith)
           (read known here (1 + arguments + dataWords command.Load s image) refl (omega (arith, there image _ _ (not-false _ e)))) (omega arith)
-          (counted-both (s .fetched) (1 + arguments) _))
-      load-call {arguments} known here two (denies e) = denied (1 + arguments) (whole known here) _ e
+          (counted-both (s .fetched) (1 + arguments) _) (refl, fits refl))
+      load-call {arguments} known here two (denies e) fits = denied (1 + arguments) (whole known here) _ e
+
+      -- 18 follows what judges a section, and 17 what judges an entry
+      section-judges : {j : Judged} (size : ℕ) → Judges j → Judges (overflowing s size j)
+      section-judges size judges = barred-judges _ (ends refusal.Overflow refl) judges
 
       -- each command whose argument words are there
-      performed-call : (c : Command) (arguments : ℕ) → rowIs Flash c arguments ≡ true → lookedUp (wordAt image (s .offset)) Flash ≡ Known c arguments
+      performed-call : (c : Command) (arguments : ℕ) → rowIs Flash (s .dialect) c arguments ≡ true
+          → lookedUp (wordAt image (s .offset)) Flash (s .dialect) ≡ Known c arguments
           → s .offset + 4 + 4 * arguments ≤ length image → Answered (performed c (fetching (1 + arguments) s) m image)
-      unfolding rowIs
-      performed-call command.Load n row known h = load-call known h (eqb-true n 2 row) (load-judges (s .windows) _ _)
+      unfolding rowIs argument
+      performed-call command.Load n row known h =
+          let judges = load-judges (s .windows) _ _ in
+          load-call known h (eqb-true n 2 row) (section-judges _ judges) (test-failed _ (ends refusal.Overflow refl) judges)
       performed-call command.Fill n row known h =
           let four = eqb-true n 4 row in
-          after-call (1 + n) (whole known h) 5 (omega arith) (λ z. omega arith) (fill-answers _ _ _ _ _ _ _) (read known h 5 (omega arith) (omega arith))
+          let judges = fill-judges (s .windows) _ _ _ in
+          after-call (1 + n) (whole known h) 5 (omega arith) (λ z. omega arith) (fill-answers (section-judges _ judges) _ _ _ _ _ _)
+          (read known h 5 (omega arith) (omega arith)) (λ e. (refl, test-failed _ (ends refusal.Overflow refl) judges (sym (fill-number _ _ _ _ _ _ _) ∙ e)))
       performed-call command.BootTable n row known h =
           let four = eqb-true n 4 row in
-          after-call (1 + n) (whole known h) 5 (omega arith) (λ z. omega arith) (setting-answers _ _ _ _ _ _) (read known h 5 (omega arith) (omega arith))
+          after-call (1 + n) (whole known h) 5 (omega arith) (λ z. omega arith) (setting-answers (setting-judges (s .windows) _ _ _) _ _)
+          (read known h 5 (omega arith) (omega arith)) (λ e. (refl, tt))
       performed-call command.Enable n row known h =
           let none = eqb-true n 0 row in
-          goes-on (λ z. omega arith) (read known h (1 + n) (omega arith) (omega arith)) (omega arith) refl
+          goes-on (λ z. omega arith) (read known h (1 + n) (omega arith) (omega arith)) (omega arith) refl (refl, tt)
       performed-call command.Disable n row known h =
           let none = eqb-true n 0 row in
-          goes-on (λ z. omega arith) (read known h (1 + n) (omega arith) (omega arith)) (omega arith) refl
+          goes-on (λ z. omega arith) (read known h (1 + n) (omega arith) (omega arith)) (omega arith) refl (refl, tt)
       performed-call command.Request n row known h =
           let two = eqb-true n 2 row in
           request-call (1 + n) (whole known h) (omega arith) (read known h 3 (omega arith) (omega arith)) _ _ refl
       performed-call command.StartOver n row known h = absurd (true≢false (sym row))
       performed-call command.JumpAndClose n row known h =
-          let one = eqb-true n 1 row in
-          entered-call (1 + n) (whole known h) 2 (omega arith) (close-answers _ _ _) (read known h 2 (omega arith) (omega arith))
+          let judges = entry-judges (s .windows) _ in
+          let count = close-count (s .dialect) n row in
+          entered-call (1 + n) (whole known h) (closeWords (s .dialect)) (omega arith)
+          (close-answers (barred-judges _ (ends refusal.Totals refl) judges) _ _) (read known h (closeWords (s .dialect)) (omega arith) (omega arith))
+          (λ e. test-failed _ (ends refusal.Totals refl) judges (sym (close-number _ _ _) ∙ e))
       performed-call command.Ping n row known h = absurd (true≢false (sym row))
       performed-call command.SequentialRead n row known h =
           let none = eqb-true n 0 row in
-          goes-on (λ z. omega arith) (read known h (1 + n) (omega arith) (omega arith)) (omega arith) refl
+          goes-on (λ z. omega arith) (read known h (1 + n) (omega arith) (omega arith)) (omega arith) refl (refl, tt)
 
-      row-call : (found : Found) → lookedUp (wordAt image (s .offset)) Flash ≡ found → s .offset + 4 ≤ length image → Answered (atRow s m image found)
+      row-call : (found : Found) → lookedUp (wordAt image (s .offset)) Flash (s .dialect) ≡ found → s .offset + 4 ≤ length image → Answered (atRow s m image found)
       unfolding wordsFrom
       row-call Unknown found here = stops refusal.Opcode (ends refusal.Opcode refl) (ap (countedOn (s .fetched)) (sym (met-found found here ∙ omega arith)))
       row-call Retired found here = stops refusal.Retired (ends refusal.Retired refl) (ap (countedOn (s .fetched)) (sym (met-found found here ∙ omega arith)))
@@ -258,7 +300,7 @@ module _ (s : Session) (image : List ℕ) where
           (λ e.
           let short = lacking image _ _ (not-true _ e) in
           stops refusal.Missing (ends refusal.Missing refl) (ap (countedOn (s .fetched)) (sym (met-found found here ∙ omega arith))))
-          (λ e. performed-call c arguments (row-is Flash _ c arguments found) found (there image _ _ (not-false _ e)))
+          (λ e. performed-call c arguments (row-is Flash (s .dialect) _ c arguments found) found (there image _ _ (not-false _ e)))
 
 pub every-call : EveryCall
 unfolding stepOf
@@ -270,4 +312,4 @@ every-call s m image =
     (λ sound. of-choice Answered _ (λ e. stops s image standing refusal.Missing (ends refusal.Missing refl)
     (counted-none (s .fetched) ∙ ap (countedOn (s .fetched)) (sym (met-none s image (lacking image _ _ (not-true _ e))))))
     (λ e. row-call s image standing m (eqb-true _ _ (both (goodLength (length image)) _ (not-false _ sound) .1))
-    (lookedUp (wordAt image (s .offset)) Flash) refl (there image _ _ (not-false _ e))))))
+    (lookedUp (wordAt image (s .offset)) Flash (s .dialect)) refl (there image _ _ (not-false _ e))))))

@@ -18,11 +18,11 @@ use Rattle.script.specs.declared.Found.{Found}
 use Rattle.script.specs.declared.Found.the-variants.{Known}
 use Rattle.script.specs.declared.Mode.the-variants.{Flash}
 use Rattle.script.specs.declared.Refusal.the-variants as refusal
-use Rattle.commands.specs.Commands.{multiple, loadJudged, loaded, loadFed, fillDone, fillMemory, settingDone, settingMemory}
+use Rattle.commands.specs.Commands.{multiple, loadJudged, loaded, loadFed, fillJudged, settingJudged}
 use Rattle.commands.specs.declared.Judged.{Judged}
 use Rattle.flash.specs.Opening.{goodLength}
-use Rattle.flash.specs.Sessions.{_leaving_, goTo, fetching, unchanged, stopped, accepted}
-use Rattle.flash.specs.Step.{present, wordsFrom, argument, after, loadAt, loadJudgedAs, performed, atRow, stepOf}
+use Rattle.flash.specs.Sessions.{_leaving_, goTo, withTotals, oneSection, fetching, unchanged, stopped, accepted}
+use Rattle.flash.specs.Step.{present, wordsFrom, argument, overflowing, loadAt, loadJudgedAs, fillJudgedAs, settingJudgedAs, performed, atRow, stepOf}
 use Rattle.flash.specs.declared.Session.{Session}
 
 -- words that are there, and words that are not
@@ -58,7 +58,7 @@ module _ (s : Session) (m image : List ℕ) where
   pub load-whole : (address size place : ℕ) → s .offset + 12 + 4 * ((size + 3) / 4) ≤ length image
       → loadAt s m image address size place
       ≡ accepted s Nothing
-      (goTo (fetching ((size + 3) / 4) s) (pick (s .on) (loadFed (s .register) address (bytesAt image (s .offset + 12) size)) (s .register))
+      (goTo (withTotals (fetching ((size + 3) / 4) s) (oneSection s size)) (pick (s .on) (loadFed (s .register) address (bytesAt image (s .offset + 12) size)) (s .register))
       (s .offset + 12 + 4 * ((size + 3) / 4)))
       leaving loaded m place (bytesAt image (s .offset + 12) size)
   unfolding loadAt
@@ -66,21 +66,21 @@ module _ (s : Session) (m image : List ℕ) where
 
   -- the commands on their words, however these were read
   pub load-read : {address size : ℕ} {judged : Judged} → address ≡ argument s image 0 → size ≡ argument s image 1
-      → judged ≡ loadJudged (s .windows) address size
+      → judged ≡ overflowing s size (loadJudged (s .windows) address size)
       → loadJudgedAs s m image address size judged ≡ performed command.Load s m image
   load-read p q j = rw (j, p, q)
 
-  pub fill-read : {address size kind pattern : ℕ} → address ≡ argument s image 0 → size ≡ argument s image 1
+  pub fill-read : {address size kind pattern : ℕ} {judged : Judged} → address ≡ argument s image 0 → size ≡ argument s image 1
       → kind ≡ argument s image 2 → pattern ≡ argument s image 3
-      → after s (fillDone (s .windows) (s .on) (s .register) address size kind pattern) 5 leaving fillMemory (s .windows) m address size kind pattern
-      ≡ performed command.Fill s m image
-  fill-read p q k v = rw (p, q, k, v)
+      → judged ≡ overflowing s size (fillJudged (s .windows) address size kind)
+      → fillJudgedAs s m address size kind pattern judged ≡ performed command.Fill s m image
+  fill-read p q k v j = rw (j, p, q, k, v)
 
-  pub setting-read : {word address value delay : ℕ} → word ≡ argument s image 0 → address ≡ argument s image 1
+  pub setting-read : {word address value delay : ℕ} {judged : Judged} → word ≡ argument s image 0 → address ≡ argument s image 1
       → value ≡ argument s image 2 → delay ≡ argument s image 3
-      → after s (settingDone (s .windows) (s .register) word address value delay) 5 leaving settingMemory (s .windows) m word address value
-      ≡ performed command.BootTable s m image
-  setting-read p q k v = rw (p, q, k, v)
+      → judged ≡ settingJudged (s .windows) word address value
+      → settingJudgedAs s m word value delay judged ≡ performed command.BootTable s m image
+  setting-read p q k v j = rw (j, p, q, k, v)
 
   -- a row whose argument words are cut short, and one whose words are there
   module _ {found : Found} {command : Command} {words : ℕ} (known : found ≡ Known command words) where
@@ -114,7 +114,7 @@ module _ (s : Session) (m image : List ℕ) where
             passed _ _ _ running ∙ passed _ _ _ (ap not (eq-eqb _ _ lent)) ∙ passed _ _ _ (ap not sound)
             ∙ chosen _ _ _ (lacking image (s .offset) 1 h)
 
-        pub call-row : s .offset + 4 ≤ length image → stepOf s m image ≡ atRow s m image (lookedUp (wordAt image (s .offset)) Flash)
+        pub call-row : s .offset + 4 ≤ length image → stepOf s m image ≡ atRow s m image (lookedUp (wordAt image (s .offset)) Flash (s .dialect))
         unfolding stepOf
         call-row h =
             passed _ _ _ running ∙ passed _ _ _ (ap not (eq-eqb _ _ lent)) ∙ passed _ _ _ (ap not sound)

@@ -10,6 +10,7 @@ use Rattle.words.specs.Choice.{pick}
 use Rattle.words.proofs.Choice.{both, of-choice}
 use Rattle.windows.specs.Window.{sumOf}
 use Rattle.windows.specs.declared.Window.{Window}
+use Rattle.script.specs.declared.Dialect.{Dialect}
 use Rattle.commands.specs.Commands.{multiple}
 use Rattle.flash.specs.Calls.{Way, forward, back, kept, Call}
 use Rattle.flash.specs.Opening.{goodLength, openedBy}
@@ -30,14 +31,14 @@ call-aligned {s} {image} {a} aligned call = go (call .way)
     go (back b) = b .aligned
     go (kept k) = omega arith
 
-opened-aligned : (count : ℕ) (windows : List Window) (image : List ℕ) (limit : ℕ) → openedBy count windows image limit .session .offset % 4 ≡ 0
+opened-aligned : (dialect : Dialect) (count : ℕ) (windows : List Window) (image : List ℕ) (limit : ℕ) → openedBy dialect count windows image limit .session .offset % 4 ≡ 0
 unfolding openedBy
-opened-aligned count windows image limit =
+opened-aligned dialect count windows image limit =
     let Aligned : Opened → Type 0 = λ o. o .session .offset % 4 ≡ 0 in
     of-choice Aligned _ (λ e. refl) (λ e. of-choice Aligned _ (λ e. refl) (λ e. of-choice Aligned _ (λ e. refl) (λ e. refl)))
 
 pub reached-aligned : {s : Session} → Reached s → s .offset % 4 ≡ 0
-reached-aligned (opened count windows image limit) = opened-aligned count windows image limit
+reached-aligned (opened dialect count windows image limit) = opened-aligned dialect count windows image limit
 reached-aligned (called {s} lent reached) =
     omega (arith, call-aligned (reached-aligned reached) (every-call s (lent .memory) (lent .image)))
 

@@ -7,6 +7,7 @@ use mathlib.Core.Path.{_≡_, refl}
 use native.Mathlib.Omega.{arith}
 use lib.Dec.{ltb, eqb}
 use borrow.Author.Tests.{ltb-true, leb-true, eqb-true, not-true}
+use Rattle.words.specs.Choice.{pick}
 use Rattle.words.proofs.Choice.{both, of-choice}
 use Rattle.windows.specs.declared.Window.{Window}
 use Rattle.script.specs.Answers.{numberOf, kindOf}
@@ -14,7 +15,7 @@ use Rattle.script.specs.declared.Event.{Event}
 use Rattle.script.specs.declared.Event.the-variants as event
 use Rattle.script.specs.declared.Refusal.{Refusal}
 use Rattle.script.specs.declared.Refusal.the-variants as refusal
-use Rattle.commands.specs.Commands.{multiple, doneIf, loadJudged, fillJudged, fillDone, settingJudged, settingDone, entryJudged, closeDone, target, soughtFrom}
+use Rattle.commands.specs.Commands.{judgedNumber, multiple, doneIf, barred, loadJudged, fillJudged, fillDone, settingJudged, settingDone, entryJudged, closeDone, target, soughtFrom}
 use Rattle.commands.proofs.Judging.{EachRefusal, Passes, load-passes, fill-passes, setting-passes, entry-passes}
 use Rattle.commands.specs.declared.Done.{Done}
 use Rattle.commands.specs.declared.Judged.{Judged}
@@ -57,14 +58,40 @@ module _ (windows : List Window) where
   pub load-judges : (address size : ℕ) → Judges (loadJudged windows address size)
   load-judges address size = passed-judges _ (load-passes Ending every-refusal windows address size)
 
-  fill-judges : (address size kind : ℕ) → Judges (fillJudged windows address size kind)
+  pub fill-judges : (address size kind : ℕ) → Judges (fillJudged windows address size kind)
   fill-judges address size kind = passed-judges _ (fill-passes Ending every-refusal windows address size kind)
 
-  setting-judges : (word address value : ℕ) → Judges (settingJudged windows word address value)
+  pub setting-judges : (word address value : ℕ) → Judges (settingJudged windows word address value)
   setting-judges word address value = passed-judges _ (setting-passes Ending every-refusal windows word address value)
 
-  entry-judges : (address : ℕ) → Judges (entryJudged windows address)
+  pub entry-judges : (address : ℕ) → Judges (entryJudged windows address)
   entry-judges address = passed-judges _ (entry-passes Ending every-refusal windows address)
+
+-- so with a later number
+pub barred-judges : (test : Bool) {q : Refusal} {j : Judged} → Ending q → Judges j → Judges (barred test q j)
+barred-judges test ending grants = of-choice Judges test (λ e. denies ending) (λ e. grants)
+barred-judges test ending (denies e) = denies e
+
+-- what is granted then did not pass its test
+pub test-failed : (test : Bool) {q : Refusal} {j : Judged} → Ending q → Judges j → judgedNumber (barred test q j) ≡ 0 → test ≡ false
+unfolding pick
+test-failed true ending grants e = absurd (ending .refused e)
+test-failed false ending grants e = refl
+test-failed test ending (denies wrong) e = absurd (wrong .refused e)
+
+-- the number of an answer is the judgement's
+done-number : (j : Judged) (register fed : ℕ) (told : Event) → numberOf (doneIf j register told fed .refusal) ≡ judgedNumber j
+done-number (Granted place) register fed told = refl
+done-number (Refused q) register fed told = refl
+
+pub fill-number : (j : Judged) (on : Bool) (register address size kind pattern : ℕ)
+    → numberOf (fillDone j on register address size kind pattern .refusal) ≡ judgedNumber j
+unfolding fillDone
+fill-number j on register address size kind pattern = done-number j _ _ _
+
+pub close-number : (j : Judged) (register address : ℕ) → numberOf (closeDone j register address .refusal) ≡ judgedNumber j
+unfolding closeDone
+close-number j register address = done-number j _ _ _
 
 -- a command that was judged is accepted with an event of a kind, or refused with such a number
 pub data Answers (kind : ℕ) (done : Done) : Type 0 where
@@ -75,18 +102,18 @@ judged-answers : {j : Judged} (register fed : ℕ) (told : Event) → Judges j �
 judged-answers register fed told grants = accepts refl refl
 judged-answers register fed told (denies e) = rejects e
 
-module _ (windows : List Window) (register : ℕ) where
-  pub fill-answers : (on : Bool) (address size kind pattern : ℕ) → Answers 0 (fillDone windows on register address size kind pattern)
+module _ {judged : Judged} (judges : Judges judged) (register : ℕ) where
+  pub fill-answers : (on : Bool) (address size kind pattern : ℕ) → Answers 0 (fillDone judged on register address size kind pattern)
   unfolding fillDone
-  fill-answers on address size kind pattern = judged-answers _ _ event.Nothing (fill-judges windows address size kind)
+  fill-answers on address size kind pattern = judged-answers _ _ event.Nothing judges
 
-  pub setting-answers : (word address value delay : ℕ) → Answers 1 (settingDone windows register word address value delay)
+  pub setting-answers : (delay : ℕ) → Answers 1 (settingDone judged register delay)
   unfolding settingDone
-  setting-answers word address value delay = judged-answers _ _ (event.Wait delay) (setting-judges windows word address value)
+  setting-answers delay = judged-answers _ _ (event.Wait delay) judges
 
-  pub close-answers : (address : ℕ) → Answers 3 (closeDone windows register address)
+  pub close-answers : (address : ℕ) → Answers 3 (closeDone judged register address)
   unfolding closeDone
-  close-answers address = judged-answers _ _ (event.Enter address) (entry-judges windows address)
+  close-answers address = judged-answers _ _ (event.Enter address) judges
 
 -- a seek leads back to a multiple of 4 that is at least 4, or is refused
 pub data Leads (request : ℕ) : Sought → Type 0 where

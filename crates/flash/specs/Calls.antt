@@ -12,13 +12,16 @@ use Rattle.script.specs.Answers.{numberOf, kindOf}
 use Rattle.script.specs.Opcodes.{lookedUp}
 use Rattle.script.specs.declared.Command.{Command}
 use Rattle.script.specs.declared.Command.the-variants.{Load, Fill, BootTable, Enable, Disable, Request, StartOver, JumpAndClose, Ping, SequentialRead}
+use Rattle.script.specs.declared.Event.the-variants.{Nothing}
 use Rattle.script.specs.declared.Found.{Found}
 use Rattle.script.specs.declared.Found.the-variants.{Known, Retired, Unknown}
 use Rattle.script.specs.declared.Mode.the-variants.{Flash}
 use Rattle.script.specs.declared.Refusal.{Refusal}
 use Rattle.script.specs.declared.Refusal.the-variants.{None}
+use Rattle.totals.specs.Agreement.{Happening, section, enable, passed, retried, other, inFlash}
+use Rattle.totals.specs.Totals.{wouldPass, differs}
 use Rattle.flash.specs.Sessions.{countedOn}
-use Rattle.flash.specs.Step.{wordsFrom, argument, stepOf}
+use Rattle.flash.specs.Step.{wordsFrom, argument, named, stepOf}
 use Rattle.flash.specs.declared.Called.{Called}
 use Rattle.flash.specs.declared.Session.{Session}
 
@@ -45,20 +48,42 @@ argumentWords Unknown = 0
 argumentWords Retired = 0
 argumentWords (Known command words) = words
 
+-- what an accepted command that goes forward is to the totals, a load or a fill being of so many bytes
+abbrev pub happening : Command → ℕ → Happening
+happening Load size = section size
+happening Fill size = section size
+happening BootTable size = other
+happening Enable size = enable
+happening Disable size = other
+happening Request size = passed
+happening StartOver size = other
+happening JumpAndClose size = other
+happening Ping size = other
+happening SequentialRead size = other
+
+-- a section takes no total past the largest
+abbrev pub Fits : Session → Happening → Type 0
+Fits s (section size) = wouldPass (s .dialect) (s .totals) size ≡ false
+Fits s enable = Unit {0}
+Fits s passed = Unit {0}
+Fits s retried = Unit {0}
+Fits s other = Unit {0}
+
 -- the opcode and the argument words of the command at the session's offset that an image has
 unfoldable pub met : Session → List ℕ → ℕ
 met s image =
-    min 1 (wordsFrom image (s .offset)) + min (argumentWords (lookedUp (wordAt image (s .offset)) Flash)) (wordsFrom image (s .offset + 4))
+    min 1 (wordsFrom image (s .offset)) + min (argumentWords (lookedUp (wordAt image (s .offset)) Flash (s .dialect))) (wordsFrom image (s .offset + 4))
 
 -- the words of the command at the session's offset, all of them in an image of the opening's length: the opcode, the arguments of its row in the table, its data
 pub record Reads (s : Session) (image : List ℕ) (command : Command) (words : ℕ) : Type 0 where
   pub arguments : ℕ
-  pub row : lookedUp (wordAt image (s .offset)) Flash ≡ Known command arguments
+  pub row : lookedUp (wordAt image (s .offset)) Flash (s .dialect) ≡ Known command arguments
   pub count : words ≡ 1 + arguments + dataWords command s image
   pub present : s .offset + 4 * words ≤ length image
   pub lent : length image ≡ s .length
 
--- accepted: forward by exactly these words, all of them fetched, the retries kept; the session ends exactly where it enters, which Jump & Close alone does
+-- accepted: forward by exactly these words, all of them fetched, the retries kept, the totals told by what the command is to them, none past the largest; the
+-- session ends exactly where it enters, which Jump & Close alone does, having named the totals
 pub record Forward (s : Session) (image : List ℕ) (a : Called) : Type 0 where
   pub command : Command
   pub words : ℕ
@@ -67,10 +92,14 @@ pub record Forward (s : Session) (image : List ℕ) (a : Called) : Type 0 where
   pub offset : a .session .offset ≡ s .offset + 4 * words
   pub fetched : a .session .fetched ≡ countedOn (s .fetched) words
   pub retries : a .session .retries ≡ s .retries
+  pub totals : a .session .totals ≡ inFlash (s .dialect) (s .totals) (happening command (argument s image 1))
+  pub fits : Fits s (happening command (argument s image 1))
   pub ended : a .session .ended ≡ eqb (kindOf (a .event)) 3
   pub entering : kindOf (a .event) ≡ 3 → command ≡ JumpAndClose
+  pub naming : kindOf (a .event) ≡ 3 → differs (s .dialect) (s .totals) (named s image) ≡ false
 
--- a Request with retries left: back to a multiple of 4 that is at least 4 and below its own offset, its words fetched and one retry counted
+-- a Request with retries left: back to a multiple of 4 that is at least 4 and below its own offset, its words fetched, one retry
+-- counted and the totals put back
 pub record Back (s : Session) (image : List ℕ) (a : Called) : Type 0 where
   pub words : ℕ
   pub reads : Reads s image Request words
@@ -81,17 +110,21 @@ pub record Back (s : Session) (image : List ℕ) (a : Called) : Type 0 where
   pub left : s .retries < s .limit
   pub fetched : a .session .fetched ≡ countedOn (s .fetched) words
   pub counted : a .session .retries ≡ s .retries + 1
+  pub totals : a .session .totals ≡ inFlash (s .dialect) (s .totals) retried
+  pub no-event : a .event ≡ Nothing
   pub running : a .session .ended ≡ false
 
 -- 2, 3 and 14 spare the session
 abbrev pub spares : Refusal → Bool
 spares q = eqb (numberOf q) 2 || eqb (numberOf q) 3 || eqb (numberOf q) 14
 
--- refused: the offset and the retries are kept; a session that is spared is as it was, any other has fetched the words that are there, and is ended
+-- refused: the offset, the retries and the totals are kept; a session that is spared is as it was, any other has fetched the words that are there, and is ended
 pub record Kept (s : Session) (image : List ℕ) (a : Called) : Type 0 where
   pub refused : numberOf (a .refusal) ≢ 0
   pub offset : a .session .offset ≡ s .offset
   pub retries : a .session .retries ≡ s .retries
+  pub totals : a .session .totals ≡ s .totals
+  pub no-event : a .event ≡ Nothing
   pub spared : spares (a .refusal) ≡ true → a .session ≡ s
   pub fetched : spares (a .refusal) ≡ false → a .session .fetched ≡ countedOn (s .fetched) (met s image)
   pub ended : spares (a .refusal) ≡ false → a .session .ended ≡ true
@@ -102,12 +135,13 @@ pub data Way (s : Session) (image : List ℕ) (a : Called) : Type 0 where
   back : Back s image a → Way s image a
   kept : Kept s image a → Way s image a
 
--- a call goes one of them; windows, length and limit never change, 14 is exactly for an ended session, and the offset is reported, 0 where the session is spared
+-- a call goes one of them; windows, length, limit and dialect never change, 14 is exactly for an ended session, and the offset is reported, 0 where the session is spared
 pub record Call (s : Session) (image : List ℕ) (a : Called) : Type 0 where
   pub way : Way s image a
   pub same-windows : a .session .windows ≡ s .windows
   pub same-length : a .session .length ≡ s .length
   pub same-limit : a .session .limit ≡ s .limit
+  pub same-dialect : a .session .dialect ≡ s .dialect
   pub over : eqb (numberOf (a .refusal)) 14 ≡ s .ended
   pub at : a .at ≡ pick (spares (a .refusal)) 0 (s .offset)
 

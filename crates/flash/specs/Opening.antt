@@ -8,8 +8,11 @@ use Rattle.words.specs.Bytes.{wordAt}
 use Rattle.words.specs.Choice.{pick}
 use Rattle.windows.specs.Map.{goodMap, keptOf, zeroWindow}
 use Rattle.windows.specs.declared.Window.{Window}
+use Rattle.script.specs.declared.Dialect.{Dialect}
+use Rattle.script.specs.declared.Dialect.the-variants.{Am17xx}
 use Rattle.script.specs.declared.Refusal.{Refusal}
 use Rattle.script.specs.declared.Refusal.the-variants.{None, Map, Image, Magic}
+use Rattle.totals.specs.Totals.{atOpening}
 use Rattle.commands.specs.Commands.{multiple}
 use Rattle.flash.specs.declared.Opened.{Opened}
 
@@ -25,26 +28,50 @@ goodLength n = multiple n 4 && leb 4 n && leb n longest
 abbrev pub magic : ℕ
 magic = 0x41504954
 
--- a refused opening gives a session that is ended, all else of it zero or off but the count of words fetched
+-- a refused opening gives a session of AM17xx that is ended, all else of it zero or off but the count of words fetched
 abbrev pub refusedBy : Refusal → ℕ → Opened
 refusedBy q fetched =
     record {
       refusal = q;
-      session = record { windows = replicate 8 zeroWindow; ended = true; on = false; register = 0; offset = 0; length = 0; limit = 0; retries = 0; fetched = fetched };
+      session = record {
+        windows = replicate 8 zeroWindow;
+        ended = true;
+        on = false;
+        register = 0;
+        offset = 0;
+        length = 0;
+        limit = 0;
+        retries = 0;
+        fetched = fetched;
+        dialect = Am17xx;
+        totals = atOpening;
+      };
     }
 
--- an accepted one is at the first command: checksum off, register 0, no retry counted, the first word fetched
-abbrev pub begun : List Window → ℕ → ℕ → Opened
-begun windows length limit =
+-- an accepted one is at the first command: checksum off, register and totals 0, no retry counted, the first word fetched
+abbrev pub begun : Dialect → List Window → ℕ → ℕ → Opened
+begun dialect windows length limit =
     record {
       refusal = None;
-      session = record { windows = windows; ended = false; on = false; register = 0; offset = 4; length = length; limit = limit; retries = 0; fetched = 1 };
+      session = record {
+        windows = windows;
+        ended = false;
+        on = false;
+        register = 0;
+        offset = 4;
+        length = length;
+        limit = limit;
+        retries = 0;
+        fetched = 1;
+        dialect = dialect;
+        totals = atOpening;
+      };
     }
 
--- the opening: a map, an image and a retry limit; the first word is fetched once map and length are good
-unfoldable pub openedBy : ℕ → List Window → List ℕ → ℕ → Opened
-openedBy count windows image limit =
+-- the opening: a dialect, a map, an image and a retry limit; the first word is fetched once map and length are good
+unfoldable pub openedBy : Dialect → ℕ → List Window → List ℕ → ℕ → Opened
+openedBy dialect count windows image limit =
     pick (not (goodMap count windows)) (refusedBy Map 0)
     (pick (not (goodLength (length image))) (refusedBy Image 0)
     (pick (not (eqb (wordAt image 0) magic)) (refusedBy Magic 1)
-    (begun (keptOf count windows) (length image) limit)))
+    (begun dialect (keptOf count windows) (length image) limit)))

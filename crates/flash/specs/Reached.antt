@@ -9,13 +9,17 @@ use lib.ListN.{length, replicate}
 use Rattle.windows.specs.Map.{zeroWindow}
 use Rattle.windows.specs.declared.Window.{Window}
 use Rattle.script.specs.Answers.{numberOf}
+use Rattle.script.specs.declared.Dialect.{Dialect}
+use Rattle.script.specs.declared.Dialect.the-variants.{Am17xx}
+use Rattle.totals.specs.Totals.{atOpening}
 use Rattle.flash.specs.Opening.{goodLength, openedBy}
 use Rattle.flash.specs.Step.{stepOf}
 use Rattle.flash.specs.declared.Session.{Session}
 
 -- an opening, accepted or refused, and any calls, whatever is lent to each
 pub data Reached : Session → Type 0 where
-  opened : (count : ℕ) (windows : List Window) (image : List ℕ) (limit : ℕ) → Reached (openedBy count windows image limit .session)
+  opened : (dialect : Dialect) (count : ℕ) (windows : List Window) (image : List ℕ) (limit : ℕ)
+      → Reached (openedBy dialect count windows image limit .session)
   called : {s : Session} (lent : record { memory : List ℕ; image : List ℕ }) → Reached s
       → Reached (stepOf s (lent .memory) (lent .image) .answer .session)
 
@@ -38,7 +42,20 @@ NoWordCut =
 
 -- that an opening leads there is needed: a session value at offset 6, lent two words, looks for its opcode where they are cut; it answers 5 too
 abbrev pub atSix : Session
-atSix = record { windows = replicate 8 zeroWindow; ended = false; on = false; register = 0; offset = 6; length = 8; limit = 0; retries = 0; fetched = 0 }
+atSix =
+    record {
+      windows = replicate 8 zeroWindow;
+      ended = false;
+      on = false;
+      register = 0;
+      offset = 6;
+      length = 8;
+      limit = 0;
+      retries = 0;
+      fetched = 0;
+      dialect = Am17xx;
+      totals = atOpening;
+    }
 
 abbrev pub twoWords : List ℕ
 twoWords = replicate 8 0

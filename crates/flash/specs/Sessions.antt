@@ -6,12 +6,14 @@ use Rattle.script.specs.declared.Event.{Event}
 use Rattle.script.specs.declared.Event.the-variants.{Nothing}
 use Rattle.script.specs.declared.Refusal.{Refusal}
 use Rattle.script.specs.declared.Refusal.the-variants.{None}
+use Rattle.totals.specs.Totals.{counted, marked, putBack}
+use Rattle.totals.specs.declared.Totals.{Totals}
 use Rattle.flash.specs.declared.Called.{Called}
 use Rattle.flash.specs.declared.Session.{Session}
 
 -- a session with all that a call may change
-abbrev pub changed : Session → Bool → Bool → ℕ → ℕ → ℕ → ℕ → Session
-changed s ended on register offset retries fetched =
+abbrev pub changed : Session → Bool → Bool → ℕ → ℕ → ℕ → ℕ → Totals → Session
+changed s ended on register offset retries fetched totals =
     record {
       windows = s .windows;
       ended = ended;
@@ -22,27 +24,37 @@ changed s ended on register offset retries fetched =
       limit = s .limit;
       retries = retries;
       fetched = fetched;
+      dialect = s .dialect;
+      totals = totals;
     }
 
 -- ended, all else as it was
 abbrev pub stop : Session → Session
-stop s = changed s true (s .on) (s .register) (s .offset) (s .retries) (s .fetched)
+stop s = changed s true (s .on) (s .register) (s .offset) (s .retries) (s .fetched) (s .totals)
 
 -- with another register, going on at another offset
 abbrev pub goTo : Session → ℕ → ℕ → Session
-goTo s register offset = changed s (s .ended) (s .on) register offset (s .retries) (s .fetched)
+goTo s register offset = changed s (s .ended) (s .on) register offset (s .retries) (s .fetched) (s .totals)
 
--- with register 0 at an earlier offset, one retry counted
+-- with other totals, all else as it was
+abbrev pub withTotals : Session → Totals → Session
+withTotals s totals = changed s (s .ended) (s .on) (s .register) (s .offset) (s .retries) (s .fetched) totals
+
+-- its totals with one more section of so many bytes
+abbrev pub oneSection : Session → ℕ → Totals
+oneSection s size = counted (s .dialect) (s .totals) size
+
+-- with register 0 at an earlier offset, one retry counted, the totals put back
 abbrev pub goBack : Session → ℕ → Session
-goBack s offset = changed s (s .ended) (s .on) 0 offset (s .retries + 1) (s .fetched)
+goBack s offset = changed s (s .ended) (s .on) 0 offset (s .retries + 1) (s .fetched) (putBack (s .totals))
 
--- the checksum on, its register 0, and past the opcode
+-- the checksum on, its register 0, the totals marked, and past the opcode
 abbrev pub switchOn : Session → Session
-switchOn s = changed s (s .ended) true 0 (s .offset + 4) (s .retries) (s .fetched)
+switchOn s = changed s (s .ended) true 0 (s .offset + 4) (s .retries) (s .fetched) (marked (s .totals))
 
 -- the checksum off, its register kept, and past the opcode
 abbrev pub switchOff : Session → Session
-switchOff s = changed s (s .ended) false (s .register) (s .offset + 4) (s .retries) (s .fetched)
+switchOff s = changed s (s .ended) false (s .register) (s .offset + 4) (s .retries) (s .fetched) (s .totals)
 
 -- a count of words with n more, or with as many as 32 bits still hold: it stays at the largest number
 unfoldable pub countedOn : ℕ → ℕ → ℕ
@@ -50,7 +62,7 @@ countedOn fetched n = fetched + min n (0xFFFFFFFF - fetched)
 
 -- with n words more fetched, all else as it was
 abbrev pub fetching : ℕ → Session → Session
-fetching n s = changed s (s .ended) (s .on) (s .register) (s .offset) (s .retries) (countedOn (s .fetched) n)
+fetching n s = changed s (s .ended) (s .on) (s .register) (s .offset) (s .retries) (countedOn (s .fetched) n) (s .totals)
 
 -- refused, the session unchanged; no offset is reported
 abbrev pub unchanged : Refusal → Session → Called

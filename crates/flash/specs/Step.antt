@@ -11,19 +11,24 @@ use Rattle.script.specs.Answers.{numberOf}
 use Rattle.script.specs.Opcodes.{lookedUp}
 use Rattle.script.specs.declared.Command.{Command}
 use Rattle.script.specs.declared.Command.the-variants as command
+use Rattle.script.specs.declared.Dialect.{Dialect}
+use Rattle.script.specs.declared.Dialect.the-variants.{Am17xx, Dm648}
 use Rattle.script.specs.declared.Event.the-variants.{Nothing}
 use Rattle.script.specs.declared.Found.{Found}
 use Rattle.script.specs.declared.Found.the-variants.{Known, Retired, Unknown}
 use Rattle.script.specs.declared.Mode.the-variants.{Flash}
 use Rattle.script.specs.declared.Refusal.the-variants as refusal
-use Rattle.commands.specs.Commands.{loadJudged, loaded, loadFed, fillDone, fillMemory, settingDone, settingMemory, closeDone, soughtFrom}
+use Rattle.totals.specs.Totals.{standing, wouldPass, differs, marked}
+use Rattle.totals.specs.declared.Standing.{Standing}
+use Rattle.totals.specs.declared.Totals.{Totals}
+use Rattle.commands.specs.Commands.{barred, loadJudged, loaded, loadFed, fillJudged, fillDone, fillMemory, settingJudged, settingDone, settingMemory, entryJudged, closeDone, soughtFrom}
 use Rattle.commands.specs.declared.Done.{Done}
 use Rattle.commands.specs.declared.Judged.{Judged}
 use Rattle.commands.specs.declared.Judged.the-variants.{Granted, Refused}
 use Rattle.commands.specs.declared.Sought.{Sought}
 use Rattle.commands.specs.declared.Sought.the-variants as sought
 use Rattle.flash.specs.Opening.{goodLength}
-use Rattle.flash.specs.Sessions.{Outcome, _leaving_, stop, goTo, goBack, switchOn, switchOff, fetching, unchanged, stopped, accepted}
+use Rattle.flash.specs.Sessions.{Outcome, _leaving_, stop, goTo, withTotals, oneSection, goBack, switchOn, switchOff, fetching, unchanged, stopped, accepted}
 use Rattle.flash.specs.declared.Called.{Called}
 use Rattle.flash.specs.declared.Session.{Session}
 
@@ -39,59 +44,90 @@ wordsFrom image at = (length image - at) / 4
 unfoldable pub argument : Session → List ℕ → ℕ → ℕ
 argument s image i = wordAt image (s .offset + 4 + 4 * i)
 
--- a command of n words that was judged and done: refused it ends the session, accepted it goes on past its words
-unfoldable pub after : Session → Done → ℕ → Called
-after s done n =
+-- a command of n words that was judged and done: refused it ends the session, accepted it goes on past its words, with these totals
+unfoldable pub after : Session → Totals → Done → ℕ → Called
+after s totals done n =
     pick (eqb (numberOf (done .refusal)) 0)
-    (accepted s (done .event) (goTo s (done .register) (s .offset + 4 * n)))
+    (accepted s (done .event) (goTo (withTotals s totals) (done .register) (s .offset + 4 * n)))
     (stopped (done .refusal) s)
 
--- a load granted at a place: 5 for its data, else they are fetched, copied and fed
+-- 18, of a load or a fill of so many bytes that was judged
+abbrev pub overflowing : Session → ℕ → Judged → Judged
+overflowing s size judged = barred (wouldPass (s .dialect) (s .totals) size) refusal.Overflow judged
+
+-- a load granted at a place: 5 for its data, else they are fetched, copied and fed, and counted
 unfoldable pub loadAt : Session → List ℕ → List ℕ → ℕ → ℕ → ℕ → Outcome
 loadAt s m image address size place =
     pick (not (present image (s .offset + 12) ((size + 3) / 4))) (stopped refusal.Missing s leaving m)
     (accepted s Nothing
-    (goTo (fetching ((size + 3) / 4) s) (pick (s .on) (loadFed (s .register) address (bytesAt image (s .offset + 12) size)) (s .register))
+    (goTo (withTotals (fetching ((size + 3) / 4) s) (oneSection s size)) (pick (s .on) (loadFed (s .register) address (bytesAt image (s .offset + 12) size)) (s .register))
     (s .offset + 12 + 4 * ((size + 3) / 4)))
     leaving loaded m place (bytesAt image (s .offset + 12) size))
 
--- a load by its judgement: 7
+-- a load by its judgement: 7, 18
 abbrev pub loadJudgedAs : Session → List ℕ → List ℕ → ℕ → ℕ → Judged → Outcome
 loadJudgedAs s m image address size (Granted place) = loadAt s m image address size place
 loadJudgedAs s m image address size (Refused q) = stopped q s leaving m
+
+-- a fill by its judgement: .., 7, 18; accepted it is counted
+abbrev pub fillJudgedAs : Session → List ℕ → ℕ → ℕ → ℕ → ℕ → Judged → Outcome
+fillJudgedAs s m address size kind pattern judged =
+    after s (oneSection s size) (fillDone judged (s .on) (s .register) address size kind pattern) 5 leaving fillMemory judged m size kind pattern
+
+-- a setting by its judgement; it is not counted
+abbrev pub settingJudgedAs : Session → List ℕ → ℕ → ℕ → ℕ → Judged → Outcome
+settingJudgedAs s m word value delay judged =
+    after s (s .totals) (settingDone judged (s .register) delay) 5 leaving settingMemory judged m word value
 
 -- a mismatch by where its seek leads: one retry is counted, or 12; the register becomes 0 either way
 abbrev pub soughtAs : Session → Sought → Called
 soughtAs s (sought.To offset) = accepted s Nothing (goBack s offset)
 soughtAs s (sought.Refused q) = stopped q (goTo s 0 (s .offset))
 
--- Request: a match goes on; a mismatch with retries spent is 11; else the seek. The register becomes 0 in each case
+-- Request: a match goes on, the totals marked; a mismatch with retries spent is 11; else the seek. The register becomes 0 in each case
 unfoldable pub requested : Session → ℕ → ℕ → Called
 requested s expected seek =
-    pick (eqb expected (s .register)) (accepted s Nothing (goTo s 0 (s .offset + 12)))
+    pick (eqb expected (s .register)) (accepted s Nothing (goTo (withTotals s (marked (s .totals))) 0 (s .offset + 12)))
     (pick (leb (s .limit) (s .retries)) (stopped refusal.Checksum (goTo s 0 (s .offset)))
     (soughtAs s (soughtFrom (s .offset) seek)))
 
--- Jump & Close: entered, the session is ended
+-- the totals that a close names: sections, then bytes
+abbrev pub named : Session → List ℕ → Standing
+named s image = standing (argument s image 1) (argument s image 2)
+
+-- how many words Jump & Close has, its opcode among them
+abbrev pub closeWords : Dialect → ℕ
+closeWords Am17xx = 2
+closeWords Dm648 = 4
+
+-- entered, the session is ended
 abbrev pub entered : Called → Called
 entered a = record { refusal = a .refusal; event = a .event; at = a .at; session = stop (a .session) }
+
+-- Jump & Close: 10, then 17 where the totals are not those that it names
+abbrev pub closed : Session → ℕ → Standing → Called
+closed s address totals =
+    entered
+    (after s (s .totals)
+    (closeDone (barred (differs (s .dialect) (s .totals) totals) refusal.Totals (entryJudged (s .windows) address)) (s .register) address)
+    (closeWords (s .dialect)))
 
 -- each command, its words being there; those that the table allows in sent mode only are 6
 abbrev pub performed : Command → Session → List ℕ → List ℕ → Outcome
 performed command.Load s m image =
-    loadJudgedAs s m image (argument s image 0) (argument s image 1) (loadJudged (s .windows) (argument s image 0) (argument s image 1))
+    loadJudgedAs s m image (argument s image 0) (argument s image 1)
+    (overflowing s (argument s image 1) (loadJudged (s .windows) (argument s image 0) (argument s image 1)))
 performed command.Fill s m image =
-    after s (fillDone (s .windows) (s .on) (s .register) (argument s image 0) (argument s image 1) (argument s image 2) (argument s image 3)) 5
-    leaving fillMemory (s .windows) m (argument s image 0) (argument s image 1) (argument s image 2) (argument s image 3)
+    fillJudgedAs s m (argument s image 0) (argument s image 1) (argument s image 2) (argument s image 3)
+    (overflowing s (argument s image 1) (fillJudged (s .windows) (argument s image 0) (argument s image 1) (argument s image 2)))
 performed command.BootTable s m image =
-    after s (settingDone (s .windows) (s .register) (argument s image 0) (argument s image 1) (argument s image 2) (argument s image 3)) 5
-    leaving settingMemory (s .windows) m (argument s image 0) (argument s image 1) (argument s image 2)
+    settingJudgedAs s m (argument s image 0) (argument s image 2) (argument s image 3)
+    (settingJudged (s .windows) (argument s image 0) (argument s image 1) (argument s image 2))
 performed command.Enable s m image = accepted s Nothing (switchOn s) leaving m
 performed command.Disable s m image = accepted s Nothing (switchOff s) leaving m
 performed command.Request s m image = requested s (argument s image 0) (argument s image 1) leaving m
 performed command.StartOver s m image = stopped refusal.Opcode s leaving m
-performed command.JumpAndClose s m image =
-    entered (after s (closeDone (s .windows) (s .register) (argument s image 0)) 2) leaving m
+performed command.JumpAndClose s m image = closed s (argument s image 0) (named s image) leaving m
 performed command.Ping s m image = stopped refusal.Opcode s leaving m
 performed command.SequentialRead s m image = accepted s Nothing (goTo s (s .register) (s .offset + 4)) leaving m
 
@@ -111,4 +147,4 @@ stepOf s m image =
     (pick (not (eqb (length m) (sumOf (s .windows)))) (unchanged refusal.Memory s leaving m)
     (pick (not (goodLength (length image) && eqb (length image) (s .length))) (unchanged refusal.Image s leaving m)
     (pick (not (present image (s .offset) 1)) (stopped refusal.Missing s leaving m)
-    (atRow s m image (lookedUp (wordAt image (s .offset)) Flash)))))
+    (atRow s m image (lookedUp (wordAt image (s .offset)) Flash (s .dialect))))))

@@ -4,21 +4,27 @@ ghost use mathlib.Core.Path.{_≡_};
 ghost use Prim.Native.Nat.{_+_, _*_, _^_, _≤_, _<_};
 ghost use lib.Dec.{eqb};
 ghost use lib.ListN.{length};
-ghost use Rattle.commands.specs.Commands.{closeDone, soughtFrom};
+ghost use Rattle.commands.specs.Commands.{soughtFrom};
 ghost use Rattle.flash.specs.Opening.{goodLength, begun, refusedBy, openedBy};
-ghost use Rattle.flash.specs.Sessions.{goTo, switchOn, switchOff, countedOn, fetching, unchanged, stopped, accepted};
-ghost use Rattle.flash.specs.Step.{argument, after, loadAt, soughtAs, requested, entered, performed, atRow, stepOf};
+ghost use Rattle.flash.specs.Sessions.{goTo, withTotals, oneSection, switchOn, switchOff, countedOn, fetching, unchanged, stopped, accepted};
+ghost use Rattle.flash.specs.Step.{argument, after, overflowing, loadAt, soughtAs, requested, named, closeWords, closed, performed, atRow, stepOf};
 use commands::Done;
 use commands::Judged;
 use commands::Sought;
 use script::Command;
+use script::Dialect;
 use script::Event;
 use script::Found;
 use script::Mode;
 use script::Refusal;
+use totals::Bytes;
+use totals::Sections;
+use totals::Standing;
+use totals::Totals;
 use windows::Window;
 
-// A standing flash session. The windows past the map's count are all zero; `fetched` counts the words fetched since the opening.
+// A standing flash session. The windows past the map's count are all zero; `fetched` counts the words fetched since the opening, `totals` what a DM648 has
+// loaded.
 pub struct Session {
     pub windows: [Window; 8],
     pub ended: bool,
@@ -29,6 +35,8 @@ pub struct Session {
     pub limit: u8,
     pub retries: u8,
     pub fetched: u32,
+    pub dialect: Dialect,
+    pub totals: Totals,
 }
 
 pub struct Opened {
@@ -51,9 +59,15 @@ impl Session {
 
     pub const FIRST: u32 = 4;
 
-    // A session from a map, an image and a retry limit; refused it is ended.
-    pub fn open(count: usize, windows: [Window; 8], image: &[u8], limit: u8) -> Opened
-        ensures { λ r. ⌜ r ≡ openedBy count windows (now (image .entry)) limit ⌝ }
+    // A session from a dialect, a map, an image and a retry limit; refused it is ended.
+    pub fn open(
+        dialect: Dialect,
+        count: usize,
+        windows: [Window; 8],
+        image: &[u8],
+        limit: u8,
+    ) -> Opened
+        ensures { λ r. ⌜ r ≡ openedBy dialect count windows (now (image .entry)) limit ⌝ }
     {
         if !windows::is_good(count, windows) {
             return shut(Refusal::Map, 0);
@@ -64,7 +78,12 @@ impl Session {
         if words::word_at(image, 0) != Self::MAGIC {
             return shut(Refusal::Magic, 1);
         }
-        begin(windows::kept(count, windows), image.len() as u32, limit)
+        begin(
+            dialect,
+            windows::kept(count, windows),
+            image.len() as u32,
+            limit,
+        )
     }
 
     // One command.
@@ -86,14 +105,15 @@ impl Session {
         if image.len() < at + 4 {
             return halt(Refusal::Missing, self);
         }
-        let found = script::look_up(words::word_at(image, at), Mode::Flash);
+        let dialect = self.dialect;
+        let found = script::look_up(words::word_at(image, at), Mode::Flash, dialect);
         at_row(found, self, memory, image)
     }
 }
 
 // A session at its first command.
-fn begin(windows: [Window; 8], length: u32, limit: u8) -> Opened
-    ensures { λ r. ⌜ r ≡ begun windows length limit ⌝ }
+fn begin(dialect: Dialect, windows: [Window; 8], length: u32, limit: u8) -> Opened
+    ensures { λ r. ⌜ r ≡ begun dialect windows length limit ⌝ }
 {
     Opened {
         refusal: Refusal::None,
@@ -107,6 +127,8 @@ fn begin(windows: [Window; 8], length: u32, limit: u8) -> Opened
             limit,
             retries: 0,
             fetched: 1,
+            dialect,
+            totals: Totals::zero(),
         },
     }
 }
@@ -155,6 +177,8 @@ fn shut(refusal: Refusal, fetched: u32) -> Opened
             limit: 0,
             retries: 0,
             fetched,
+            dialect: Dialect::Am17xx,
+            totals: Totals::zero(),
         },
     }
 }
@@ -209,6 +233,33 @@ fn moved(session: Session, register: u32, offset: u32) -> Session
     next
 }
 
+// The session with other totals.
+fn with_totals(session: Session, totals: Totals) -> Session
+    ensures { λ r. ⌜ r ≡ withTotals session totals ⌝ }
+{
+    let mut next = session;
+    next.totals = totals;
+    next
+}
+
+// The totals with one more section of so many bytes.
+fn one_section(session: Session, size: u32) -> Totals
+    ensures { λ r. ⌜ r ≡ oneSection session size ⌝ }
+{
+    let dialect = session.dialect;
+    let totals = session.totals;
+    totals.count(dialect, size)
+}
+
+// 18, of a load or a fill that was judged.
+fn overflow(session: Session, size: u32, judged: Judged) -> Judged
+    ensures { λ r. ⌜ r ≡ overflowing session size judged ⌝ }
+{
+    let dialect = session.dialect;
+    let totals = session.totals;
+    commands::bar(judged, totals.would_pass(dialect, size), Refusal::Overflow)
+}
+
 // A count with so many words more; it stays at the largest number.
 fn count_on(fetched: u32, words: u32) -> u32
     ensures { λ r. ⌜ r ≡ countedOn fetched words ⌝ }
@@ -235,15 +286,16 @@ fn argument_word(session: Session, image: &[u8], i: u32) -> u32
     words::word_at(image, (session.offset as usize) + 4 + 4 * (i as usize))
 }
 
-// The answer to a command of so many words that was judged and done.
-fn finish(session: Session, done: Done, words: u32) -> Called
+// The answer to a command of so many words that was judged and done; accepted it leaves these totals.
+fn finish(session: Session, totals: Totals, done: Done, words: u32) -> Called
     requires { ⌜ session .offset + 4 * words < 2 ^ 32 ⌝ }
-    ensures { λ r. ⌜ r ≡ after session done words ⌝ }
+    ensures { λ r. ⌜ r ≡ after session totals done words ⌝ }
 {
     let refusal = done.refusal;
     let event = done.event;
     if refusal.number() == 0 {
-        let next = moved(session, done.register, session.offset + 4 * words);
+        let offset = session.offset + 4 * words;
+        let next = moved(with_totals(session, totals), done.register, offset);
         return proceed(session, event, next);
     }
     halt(refusal, session)
@@ -277,10 +329,11 @@ fn load_at(
         address,
         &image[from..to],
     );
+    let counted = with_totals(fetch(session, words as u32), one_section(session, size));
     proceed(
         session,
         Event::Nothing,
-        moved(fetch(session, words as u32), register, end as u32),
+        moved(counted, register, end as u32),
     )
 }
 
@@ -293,7 +346,8 @@ fn load(session: Session, memory: &mut [u8], image: &[u8]) -> Called
     let address = argument_word(session, image, 0);
     let size = argument_word(session, image, 1);
     let windows = session.windows;
-    let judged = commands::judge_load(windows, address, size);
+    let granted = commands::judge_load(windows, address, size);
+    let judged = overflow(session, size, granted);
     match judged {
         Judged::Granted(place) => load_at(session, memory, image, address, size, place),
         Judged::Refused(refusal) => halt(refusal, session),
@@ -311,9 +365,11 @@ fn fill(session: Session, memory: &mut [u8], image: &[u8]) -> Called
     let kind = argument_word(session, image, 2);
     let pattern = argument_word(session, image, 3);
     let windows = session.windows;
+    let granted = commands::judge_fill(windows, address, size, kind);
+    let judged = overflow(session, size, granted);
     let done = commands::fill(
-        windows,
         memory,
+        judged,
         session.on,
         session.register,
         address,
@@ -321,7 +377,7 @@ fn fill(session: Session, memory: &mut [u8], image: &[u8]) -> Called
         kind,
         pattern,
     );
-    finish(session, done, 5)
+    finish(session, one_section(session, size), done, 5)
 }
 
 // Boot Table.
@@ -335,25 +391,22 @@ fn boot_table(session: Session, memory: &mut [u8], image: &[u8]) -> Called
     let value = argument_word(session, image, 2);
     let delay = argument_word(session, image, 3);
     let windows = session.windows;
-    let done = commands::boot_table(
-        windows,
-        memory,
-        session.register,
-        word,
-        address,
-        value,
-        delay,
-    );
-    finish(session, done, 5)
+    let judged = commands::judge_setting(windows, word, address, value);
+    let done = commands::boot_table(memory, judged, session.register, word, value, delay);
+    let totals = session.totals;
+    finish(session, totals, done, 5)
 }
 
-// Enable: the checksum on, its register 0.
+// Enable: the checksum on, its register 0, the mark is now.
 fn enable(session: Session) -> Called
     requires { ⌜ session .offset ≤ 65536 ⌝ }
     ensures { λ r. ⌜ r ≡ accepted session Event.Nothing (switchOn session) ⌝ }
 {
     let mut next = moved(session, 0, session.offset + 4);
     next.on = true;
+    let totals = session.totals;
+    let marked = totals.mark();
+    next.totals = marked;
     proceed(session, Event::Nothing, next)
 }
 
@@ -379,7 +432,7 @@ fn pass_over(session: Session) -> Called
     )
 }
 
-// A mismatch: the seek, and a retry.
+// A mismatch: the seek, and a retry, which puts the totals back.
 fn retry(session: Session, seek: u32) -> Called
     requires { ⌜ session .retries < 255 ⌝ }
     ensures { λ r. ⌜ r ≡ soughtAs session (soughtFrom (session .offset) seek) ⌝ }
@@ -389,23 +442,24 @@ fn retry(session: Session, seek: u32) -> Called
         Sought::To(offset) => {
             let mut next = moved(session, 0, offset);
             next.retries = session.retries + 1;
+            let totals = session.totals;
+            let back = totals.put_back();
+            next.totals = back;
             proceed(session, Event::Nothing, next)
         }
         Sought::Refused(refusal) => halt(refusal, moved(session, 0, session.offset)),
     }
 }
 
-// Request: compares the register, which becomes 0 either way.
+// Request: compares the register, which becomes 0 either way; on a match the mark is now.
 fn request(session: Session, expected: u32, seek: u32) -> Called
     requires { ⌜ session .offset ≤ 65536 ⌝ }
     ensures { λ r. ⌜ r ≡ requested session expected seek ⌝ }
 {
     if expected == session.register {
-        return proceed(
-            session,
-            Event::Nothing,
-            moved(session, 0, session.offset + 12),
-        );
+        let totals = session.totals;
+        let next = with_totals(session, totals.mark());
+        return proceed(session, Event::Nothing, moved(next, 0, session.offset + 12));
     }
     if session.limit <= session.retries {
         return halt(Refusal::Checksum, moved(session, 0, session.offset));
@@ -413,16 +467,44 @@ fn request(session: Session, expected: u32, seek: u32) -> Called
     retry(session, seek)
 }
 
+// How many words Jump & Close has, its opcode among them.
+fn close_words(dialect: Dialect) -> u32
+    ensures { λ r. ⌜ r ≡ closeWords dialect ⌝ }
+{
+    match dialect {
+        Dialect::Am17xx => 2,
+        Dialect::Dm648 => 4,
+    }
+}
+
+// The totals that a close names: sections, then bytes.
+fn named_at(session: Session, image: &[u8]) -> Standing
+    ensures { λ r. ⌜ r ≡ named session (now (image .entry)) ⌝ }
+{
+    Standing {
+        sections: Sections(argument_word(session, image, 1)),
+        bytes: Bytes(argument_word(session, image, 2)),
+    }
+}
+
 // Jump & Close: entered, the session is ended.
-fn jump_and_close(session: Session, address: u32) -> Called
+fn jump_and_close(session: Session, address: u32, named: Standing) -> Called
     requires { ⌜ session .offset ≤ 65536 ⌝ }
-    ensures { λ r. ⌜ r ≡ entered (after session (closeDone (session .windows) (session .register) address) 2) ⌝ }
+    ensures { λ r. ⌜ r ≡ closed session address named ⌝ }
 {
     let windows = session.windows;
+    let dialect = session.dialect;
+    let totals = session.totals;
+    let judged = commands::bar(
+        commands::judge_entry(windows, address),
+        totals.differ(dialect, named),
+        Refusal::Totals,
+    );
     let last = finish(
         session,
-        commands::jump_and_close(windows, session.register, address),
-        2,
+        totals,
+        commands::jump_and_close(judged, session.register, address),
+        close_words(dialect),
     );
     let mut over = last.session;
     over.ended = true;
@@ -454,7 +536,11 @@ fn perform(command: Command, session: Session, memory: &mut [u8], image: &[u8]) 
             argument_word(session, image, 1),
         ),
         Command::StartOver => halt(Refusal::Opcode, session),
-        Command::JumpAndClose => jump_and_close(session, argument_word(session, image, 0)),
+        Command::JumpAndClose => jump_and_close(
+            session,
+            argument_word(session, image, 0),
+            named_at(session, image),
+        ),
         Command::Ping => halt(Refusal::Opcode, session),
         Command::SequentialRead => pass_over(session),
     }

@@ -18,6 +18,8 @@ use Rattle.windows.specs.declared.Right.the-variants.{Set}
 use Rattle.script.specs.Opcodes.{rows, rowServes, foundIn as rowFound, lookedUp}
 use Rattle.script.specs.declared.Command.the-variants.{BootTable}
 use Rattle.script.specs.declared.Found.the-variants.{Known}
+use Rattle.script.specs.declared.Dialect.{Dialect}
+use Rattle.script.specs.declared.Dialect.the-variants.{Am17xx, Dm648}
 use Rattle.script.specs.declared.Mode.{Mode}
 use Rattle.script.specs.declared.Mode.the-variants.{Sent, Flash}
 use Rattle.script.specs.declared.Refusal.the-variants as refusal
@@ -120,9 +122,11 @@ module _ (text name : List ℕ) (release value : ℕ) (words : List ℕ) (m : Ma
       first : getD words 0 0 ≡ 0x58535907
       first = sym (ap (λ (ws : List ℕ). getD ws 0 0) (of .words-are))
 
-      opcode-is : (mode : Mode) → lookedUp (getD words 0 0) mode ≡ Known BootTable 4
-      opcode-is Sent = rw first
-      opcode-is Flash = rw first
+      opcode-is : (mode : Mode) (dialect : Dialect) → lookedUp (getD words 0 0) mode dialect ≡ Known BootTable 4
+      opcode-is Sent Am17xx = rw first
+      opcode-is Sent Dm648 = rw first
+      opcode-is Flash Am17xx = rw first
+      opcode-is Flash Dm648 = rw first
 
   module _ (windows : List Window) (memory : List ℕ) (place : ℕ) (lent : length memory ≡ sumOf windows)
       (over : placeOf windows Set (addressIn words) 4 ≡ At place) where
@@ -137,7 +141,7 @@ module _ (text name : List ℕ) (release value : ℕ) (words : List ℕ) (m : Ma
         ∙ ap (placed refusal.Range) (ap (λ (a : ℕ). placeOf windows Set a 4) (sym address) ∙ over)
 
     sets : (settingJudged windows (kindIn words) (addressIn words) value ≡ Granted place)
-        × Holds (kindIn words) place value memory (settingMemory windows memory (kindIn words) (addressIn words) value)
+        × Holds (kindIn words) place value memory (settingMemory (Granted place) memory (kindIn words) value)
     sets =
         rw (kind, address)
         (judged, field-laws .accepted windows memory lent (typeWord l) (l .word) value place (names-field l sound) judged)

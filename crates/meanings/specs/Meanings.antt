@@ -12,6 +12,7 @@ use Rattle.windows.specs.declared.Right.the-variants.{Set}
 use Rattle.script.specs.Opcodes.{lookedUp}
 use Rattle.script.specs.declared.Command.the-variants.{BootTable}
 use Rattle.script.specs.declared.Found.the-variants.{Known}
+use Rattle.script.specs.declared.Dialect.{Dialect}
 use Rattle.script.specs.declared.Mode.{Mode}
 use Rattle.commands.specs.Commands.{startOf, settingJudged, settingMemory}
 use Rattle.commands.specs.declared.Judged.the-variants.{Granted}
@@ -92,9 +93,9 @@ pub record QuestionsAgree : Type 0 where
   pub not-written : (text name : List ℕ) (release value : ℕ) (words : List ℕ) → Made text name release value words
       → (word bit : ℕ) → (writesBit words word bit → ⊥) → fieldOf (registerOf text) word bit release ≡ lineOfName (registerOf text) name release → ⊥
 
--- the five words of a Boot Table command, in either mode, with no delay
+-- the five words of a Boot Table command, in either mode and dialect, with no delay
 pub record IsBootTable (words : List ℕ) (value : ℕ) : Type 0 where
-  pub opcode : (mode : Mode) → lookedUp (getD words 0 0) mode ≡ Known BootTable 4
+  pub opcode : (mode : Mode) (dialect : Dialect) → lookedUp (getD words 0 0) mode dialect ≡ Known BootTable 4
   pub data-word : getD words 3 0 ≡ value
   pub no-delay : getD words 4 0 ≡ 0
 
@@ -105,4 +106,4 @@ pub record DoesWhatItSays : Type 0 where
       → (windows : List Window) (memory : List ℕ) (place : ℕ) → length memory ≡ sumOf windows
       → placeOf windows Set (addressIn words) 4 ≡ At place
       → (settingJudged windows (kindIn words) (addressIn words) value ≡ Granted place)
-      × Holds (kindIn words) place value memory (settingMemory windows memory (kindIn words) (addressIn words) value)
+      × Holds (kindIn words) place value memory (settingMemory (Granted place) memory (kindIn words) value)

@@ -1,4 +1,4 @@
--- Both modes do the same with the same words. A flash session like a sent one has its windows, end, switch and register; a call comes to the command by
+-- Both modes do the same with the same words. A flash session like a sent one has its windows, dialect, end, switch, register and settled totals; a call comes to the command by
 -- the table, the words sent come to it by the table too, and there each command is judged and done by one definition.
 use Prim.Native.Nat.{ℕ, _+_, _*_, _/_, _≤_, _<_}
 use mathlib.Core.Bool.{Bool, true, false, false≢true}
@@ -15,12 +15,17 @@ use Rattle.script.specs.Answers.{numberOf}
 use Rattle.script.specs.Opcodes.{rows, rowServes, foundIn, lookedUp}
 use Rattle.script.specs.declared.Command.{Command}
 use Rattle.script.specs.declared.Command.the-variants as command
+use Rattle.script.specs.declared.Dialect.{Dialect}
+use Rattle.script.specs.declared.Dialect.the-variants.{Am17xx, Dm648}
 use Rattle.script.specs.declared.Event.the-variants.{Nothing}
 use Rattle.script.specs.declared.Found.the-variants.{Known}
 use Rattle.script.specs.declared.Mode.the-variants.{Flash, Sent}
 use Rattle.script.specs.declared.Refusal.{Refusal}
 use Rattle.script.specs.declared.Refusal.the-variants.{None}
 use Rattle.script.proofs.Counts.{rowIs, row-is}
+use Rattle.totals.specs.Totals.{counted, marked, settled}
+use Rattle.totals.specs.declared.Totals.{Totals}
+use Rattle.totals.proofs.Laws.{stays, settled-asks-nothing, settled-once, marked-settled, settled-asking, counted-keeps}
 use Rattle.commands.specs.Commands.{loadJudged, loaded, loadFed, soughtFrom}
 use Rattle.commands.specs.declared.Done.{Done}
 use Rattle.commands.specs.declared.Judged.{Judged}
@@ -35,7 +40,7 @@ use Rattle.flash.specs.declared.Session.{Session}
 use Rattle.flash.proofs.Cases.{load-whole, load-read, row-whole, call-row}
 use Rattle.sent.specs.Machine as machine
 use Rattle.sent.specs.Machine.{noneKept, acknowledging, begun, wordStep}
-use Rattle.sent.specs.Replies.{silence}
+use Rattle.sent.specs.Replies.{silence, farewell}
 use Rattle.sent.specs.Words.{afterWords, asking, doneAtLast, doneWith}
 use Rattle.sent.specs.declared.Core.{Core}
 use Rattle.sent.specs.declared.Phase.the-variants.{Opcode}
@@ -45,11 +50,13 @@ use Rattle.sent.proofs.Laws.{load-in-pieces}
 use Rattle.modes.specs.Modes.{Alike, Same, wordsAt, Before, sentWith, SameLoad, requestSent, RequestByMode, RowsOf, BothModes, SharedRows}
 use Rattle.modes.proofs.ImageWords.{data-bytes, words-length}
 
--- the flash session that is like a sent one
-abbrev like : Core → ℕ → ℕ → ℕ → ℕ → ℕ → Session
-like k offset length limit retries fetched =
+-- the flash session that is like a sent one, with some totals
+abbrev like : Core → Totals → ℕ → ℕ → ℕ → ℕ → ℕ → Session
+like k totals offset length limit retries fetched =
     record {
       windows = k .windows;
+      dialect = k .dialect;
+      totals = totals;
       ended = k .ended;
       on = k .on;
       register = k .tally .register;
@@ -60,10 +67,12 @@ like k offset length limit retries fetched =
       fetched = fetched;
     }
 
-alike-like : (s : Session) (k : Core) → Alike s k → s ≡ like k (s .offset) (s .length) (s .limit) (s .retries) (s .fetched)
+alike-like : (s : Session) (k : Core) → Alike s k → s ≡ like k (settled (k .tally .totals)) (s .offset) (s .length) (s .limit) (s .retries) (s .fetched)
 alike-like s k a =
     λ i. record {
       windows = a .windows i;
+      dialect = a .dialect i;
+      totals = a .totals i;
       ended = a .ended i;
       on = a .on i;
       register = a .register i;
@@ -79,60 +88,155 @@ argument-at : (s : Session) (image : List ℕ) (i at : ℕ) → at ≡ s .offset
 unfolding argument
 argument-at s image i at e = ap (wordAt image) e
 
--- two that are alike came to the same end
-entered-same : (a : Called) (t : Taken) (left : List ℕ) → Same (flash._leaving_ a left) (machine._leaving_ t left)
-    → Same (flash._leaving_ (step.entered a) left) (machine._leaving_ (machine.entered t) left)
-entered-same a t left same =
-    record {
-      refusal = same .refusal;
-      event = same .event;
-      memory = refl;
-      alike = record { windows = same .alike .windows; ended = refl; on = same .alike .on; register = same .alike .register };
-    }
+-- what settled totals count stays settled
+counted-settled : (dialect : Dialect) (t : Totals) (size : ℕ) → counted dialect (settled t) size ≡ settled (counted dialect (settled t) size)
+counted-settled dialect t size = sym (stays _ (counted-keeps dialect (settled t) size .1 ∙ settled-asks-nothing t))
 
-module _ (k : Core) (offset size limit retries fetched : ℕ) where
+-- and so does a mark
+marked-stays : (t : Totals) → marked (settled t) ≡ settled (marked t)
+marked-stays t = marked-settled t ∙ sym (stays (marked t) refl)
+
+module _ (k : Core) (totals : Totals) (same : totals ≡ settled (k .tally .totals)) (left : Totals) (still : left ≡ settled left) (offset size limit retries fetched : ℕ) where
   abbrev s : Session
-  s = like k offset size limit retries fetched
+  s = like k totals offset size limit retries fetched
 
   -- a command that was judged and done
-  done-same : (done : Done) (n : ℕ) (left : List ℕ) → Same (flash._leaving_ (step.after s done n) left) (machine._leaving_ (machine.after k done) left)
+  done-same : (done : Done) (n : ℕ) (memory : List ℕ)
+      → Same (flash._leaving_ (step.after s left done n) memory) (machine._leaving_ (machine.after k left done) memory)
   unfolding step.after machine.after pick
-  done-same done n left = go (eqb (numberOf (done .refusal)) 0)
+  done-same done n memory = go (eqb (numberOf (done .refusal)) 0)
     where
       go : (t : Bool) → Same
-          (flash._leaving_ (pick t (flash.accepted s (done .event) (flash.goTo s (done .register) (offset + 4 * n))) (flash.stopped (done .refusal) s)) left)
+          (flash._leaving_
+          (pick t (flash.accepted s (done .event) (flash.goTo (flash.withTotals s left) (done .register) (offset + 4 * n))) (flash.stopped (done .refusal) s)) memory)
           (machine._leaving_
-          (pick t (record { refusal = None; reply = silence; event = done .event; core = machine.await k (done .register) Opcode })
-          (machine.refused k (done .refusal))) left)
-      go true = record { refusal = refl; event = refl; memory = refl; alike = record { windows = refl; ended = refl; on = refl; register = refl } }
-      go false = record { refusal = refl; event = refl; memory = refl; alike = record { windows = refl; ended = refl; on = refl; register = refl } }
+          (pick t (record { refusal = None; reply = silence; event = done .event; core = machine.await k (machine.tallied (done .register) left) Opcode })
+          (machine.refused k (done .refusal))) memory)
+      go true =
+          record {
+            refusal = refl;
+            event = refl;
+            memory = refl;
+            alike = record { windows = refl; dialect = refl; ended = refl; on = refl; register = refl; totals = still };
+          }
+      go false =
+          record {
+            refusal = refl;
+            event = refl;
+            memory = refl;
+            alike = record { windows = refl; dialect = refl; ended = refl; on = refl; register = refl; totals = same };
+          }
+
+  -- a refused close, whichever way its end is told
+  refused-same : (q : Refusal) (memory : List ℕ) (t : Bool) → Same (flash._leaving_ (step.entered (flash.stopped q s)) memory)
+      (machine._leaving_
+      (pick t (record { refusal = q; reply = farewell (k .dialect); event = Nothing; core = machine.stop (machine.stop k) }) (machine.refused k q)) memory)
+  refused-same q memory t =
+      of-choice (λ (x : Taken). Same (flash._leaving_ (step.entered (flash.stopped q s)) memory) (machine._leaving_ x memory)) t
+      (λ e. record {
+        refusal = refl;
+        event = refl;
+        memory = refl;
+        alike = record { windows = refl; dialect = refl; ended = refl; on = refl; register = refl; totals = same };
+      })
+      (λ e. record {
+        refusal = refl;
+        event = refl;
+        memory = refl;
+        alike = record { windows = refl; dialect = refl; ended = refl; on = refl; register = refl; totals = same };
+      })
+
+  -- a close that was judged and done
+  close-done-same : (done : Done) (n : ℕ) (memory : List ℕ)
+      → Same (flash._leaving_ (step.entered (step.after s left done n)) memory) (machine._leaving_ (machine.entered (machine.after k left done)) memory)
+  unfolding step.after machine.after machine.entered pick
+  close-done-same done n memory = go (eqb (numberOf (done .refusal)) 0)
+    where
+      go : (t : Bool) → Same
+          (flash._leaving_
+          (step.entered
+          (pick t (flash.accepted s (done .event) (flash.goTo (flash.withTotals s left) (done .register) (offset + 4 * n))) (flash.stopped (done .refusal) s)))
+          memory)
+          (machine._leaving_
+          (machine.entered
+          (pick t (record { refusal = None; reply = silence; event = done .event; core = machine.await k (machine.tallied (done .register) left) Opcode })
+          (machine.refused k (done .refusal))))
+          memory)
+      go true =
+          record {
+            refusal = refl;
+            event = refl;
+            memory = refl;
+            alike = record { windows = refl; dialect = refl; ended = refl; on = refl; register = refl; totals = still };
+          }
+      go false = refused-same (done .refusal) memory (eqb (numberOf (done .refusal)) 0)
+
+-- a core in a dialect
+abbrev within : Dialect → Core → Core
+within d k =
+    record { windows = k .windows; dialect = d; ended = k .ended; on = k .on; begun = k .begun; tally = k .tally; stage = k .stage }
 
 module _ (k : Core) (offset size limit retries fetched : ℕ) (m image : List ℕ) (opcode : ℕ) where
   abbrev session : Session
-  session = like k offset size limit retries fetched
+  session = like k (settled (k .tally .totals)) offset size limit retries fetched
+
+  once : settled (k .tally .totals) ≡ settled (settled (k .tally .totals))
+  once = sym (settled-once (k .tally .totals))
 
   -- each command with its words, however these were read
   fill-same : (a b c d : ℕ) → a ≡ argument session image 0 → b ≡ argument session image 1 → c ≡ argument session image 2 → d ≡ argument session image 3
-      → Same (step.performed command.Fill session m image) (doneWith opcode command.Fill (begun k) m (a ∷ b ∷ c ∷ d ∷ []))
+      → Same (step.performed command.Fill session m image) (doneWith opcode command.Fill (begun command.Fill k) m (a ∷ b ∷ c ∷ d ∷ []))
   unfolding doneAtLast
-  fill-same a b c d p q r t = rw (p, q, r, t) (done-same (asking (begun k) command.Fill 1 _) offset size limit retries fetched _ 5 _)
+  fill-same a b c d p q r t =
+      rw (p, q, r, t)
+      (done-same (asking (begun command.Fill k) command.Fill 1 _) (settled (k .tally .totals)) once _ (counted-settled (k .dialect) (k .tally .totals) _) offset size limit
+      retries fetched _ 5 _)
 
   setting-same : (a b c d : ℕ) → a ≡ argument session image 0 → b ≡ argument session image 1 → c ≡ argument session image 2 → d ≡ argument session image 3
-      → Same (step.performed command.BootTable session m image) (doneWith opcode command.BootTable (begun k) m (a ∷ b ∷ c ∷ d ∷ []))
+      → Same (step.performed command.BootTable session m image) (doneWith opcode command.BootTable (begun command.BootTable k) m (a ∷ b ∷ c ∷ d ∷ []))
   unfolding doneAtLast
-  setting-same a b c d p q r t = rw (p, q, r, t) (done-same (asking (begun k) command.BootTable 1 _) offset size limit retries fetched _ 5 _)
-
-  close-same : (a : ℕ) → a ≡ argument session image 0
-      → Same (step.performed command.JumpAndClose session m image) (doneWith opcode command.JumpAndClose (begun k) m (a ∷ []))
-  unfolding doneAtLast
-  close-same a p = rw p (entered-same _ _ m (done-same (asking (begun k) command.JumpAndClose 1 noneKept) offset size limit retries fetched _ 2 m))
+  setting-same a b c d p q r t =
+      rw (p, q, r, t)
+      (done-same (asking (begun command.BootTable k) command.BootTable 1 _) (settled (k .tally .totals)) once _ once offset size limit retries fetched _ 5 _)
 
   -- where the words stand in the image
   places : (i at : ℕ) → at ≡ offset + 4 + 4 * i → wordAt image at ≡ argument session image i
   places i at e = argument-at session image i at e
 
-  by-command : (c : Command) (words : ℕ) → (c ≡ command.Load → ⊥) → rowIs Flash c words ≡ true → rowIs Sent c words ≡ true
-      → Same (step.performed c session m image) (doneWith opcode c (begun k) m (wordsAt image (offset + 4) words))
+  -- Jump & Close in a dialect, with one word or with three
+  abbrev in-dialect : Dialect → Session
+  in-dialect d = like (within d k) (settled (k .tally .totals)) offset size limit retries fetched
+
+  close-am : (a : ℕ) → a ≡ argument (in-dialect Am17xx) image 0
+      → Same (step.performed command.JumpAndClose (in-dialect Am17xx) m image)
+      (doneWith opcode command.JumpAndClose (begun command.JumpAndClose (within Am17xx k)) m (a ∷ []))
+  unfolding doneAtLast
+  close-am a p =
+      rw p
+      (close-done-same (asking (begun command.JumpAndClose (within Am17xx k)) command.JumpAndClose 1 noneKept) (settled (k .tally .totals)) once _ once offset size limit
+      retries fetched _ 2 m)
+
+  close-dm : (a b c : ℕ) → a ≡ argument (in-dialect Dm648) image 0 → b ≡ argument (in-dialect Dm648) image 1 → c ≡ argument (in-dialect Dm648) image 2
+      → Same (step.performed command.JumpAndClose (in-dialect Dm648) m image)
+      (doneWith opcode command.JumpAndClose (begun command.JumpAndClose (within Dm648 k)) m (a ∷ b ∷ c ∷ []))
+  unfolding doneAtLast
+  close-dm a b c p q r =
+      rw (p, q, r)
+      (close-done-same (asking (begun command.JumpAndClose (within Dm648 k)) command.JumpAndClose 1 _) (settled (k .tally .totals)) once _ once offset size limit
+      retries fetched _ 4 m)
+
+  close-same : (d : Dialect) (words : ℕ) → rowIs Flash d command.JumpAndClose words ≡ true
+      → Same (step.performed command.JumpAndClose (in-dialect d) m image)
+      (doneWith opcode command.JumpAndClose (begun command.JumpAndClose (within d k)) m (wordsAt image (offset + 4) words))
+  unfolding wordsAt rowIs
+  close-same Am17xx words f = rw (eqb-true words 1 f) (close-am _ (argument-at (in-dialect Am17xx) image 0 _ (omega arith)))
+  close-same Dm648 words f =
+      rw (eqb-true words 3 f)
+      (close-dm _ _ _ (argument-at (in-dialect Dm648) image 0 _ (omega arith)) (argument-at (in-dialect Dm648) image 1 _ (omega arith))
+      (argument-at (in-dialect Dm648) image 2 _ (omega arith)))
+
+  by-command : (c : Command) (words : ℕ) → (c ≡ command.Load → ⊥) → rowIs Flash (k .dialect) c words ≡ true → rowIs Sent (k .dialect) c words ≡ true
+      → Same (step.performed c session m image) (doneWith opcode c (begun c k) m (wordsAt image (offset + 4) words))
   unfolding wordsAt rowIs acknowledging pick
   by-command command.Load words other f s = absurd (other refl)
   by-command command.Fill words other f s =
@@ -143,38 +247,53 @@ module _ (k : Core) (offset size limit retries fetched : ℕ) (m image : List �
       (setting-same _ _ _ _ (places 0 _ (omega arith)) (places 1 _ (omega arith)) (places 2 _ (omega arith)) (places 3 _ (omega arith)))
   by-command command.Enable words other f s =
       rw (eqb-true words 0 f)
-      (record { refusal = refl; event = refl; memory = refl; alike = record { windows = refl; ended = refl; on = refl; register = refl } })
+      (record {
+        refusal = refl;
+        event = refl;
+        memory = refl;
+        alike = record { windows = refl; dialect = refl; ended = refl; on = refl; register = refl; totals = marked-stays (k .tally .totals) };
+      })
   by-command command.Disable words other f s =
       rw (eqb-true words 0 f)
-      (record { refusal = refl; event = refl; memory = refl; alike = record { windows = refl; ended = refl; on = refl; register = refl } })
+      (record {
+        refusal = refl;
+        event = refl;
+        memory = refl;
+        alike = record { windows = refl; dialect = refl; ended = refl; on = refl; register = refl; totals = once };
+      })
   by-command command.Request words other f s = absurd (omega (arith, eqb-true words 2 f, eqb-true words 0 s))
   by-command command.StartOver words other f s = absurd (false≢true f)
-  by-command command.JumpAndClose words other f s = rw (eqb-true words 1 f) (close-same _ (places 0 _ (omega arith)))
+  by-command command.JumpAndClose words other f s = close-same (k .dialect) words f
   by-command command.Ping words other f s = absurd (false≢true f)
   by-command command.SequentialRead words other f s = absurd (false≢true s)
 
   -- Load, refused and granted
   load-refused-same : (a b : ℕ) → a ≡ argument session image 0 → b ≡ argument session image 1 → (q : Refusal)
-      → loadJudged (k .windows) (argument session image 0) (argument session image 1) ≡ Refused q
-      → Same (step.performed command.Load session m image) (doneWith opcode command.Load (begun k) m (a ∷ b ∷ []))
+      → step.overflowing session (argument session image 1) (loadJudged (k .windows) (argument session image 0) (argument session image 1)) ≡ Refused q
+      → Same (step.performed command.Load session m image) (doneWith opcode command.Load (begun command.Load k) m (a ∷ b ∷ []))
   unfolding doneAtLast
   load-refused-same a b p r q judged =
       rw (p, r)
       (subst
       (λ (j : Judged). Same (step.loadJudgedAs session m image (argument session image 0) (argument session image 1) j)
       (machine._leaving_
-      (machine.loadBegun (asking (begun k) command.Load 1 (machine.keeping noneKept (argument session image 0))) (argument session image 0)
+      (machine.loadBegun (asking (begun command.Load k) command.Load 1 (machine.keeping noneKept (argument session image 0))) (argument session image 0)
       (argument session image 1) j) m))
       (sym judged)
-      (record { refusal = refl; event = refl; memory = refl; alike = record { windows = refl; ended = refl; on = refl; register = refl } }))
+      (record {
+        refusal = refl;
+        event = refl;
+        memory = refl;
+        alike = record { windows = refl; dialect = refl; ended = refl; on = refl; register = refl; totals = once };
+      }))
 
   load-granted-same : (a b : ℕ) → a ≡ argument session image 0 → b ≡ argument session image 1 → (place : ℕ)
-      → loadJudged (k .windows) a b ≡ Granted place → ((i : ℕ) → getD image i 0 < 256) → offset + 12 + 4 * ((b + 3) / 4) ≤ length image
+      → step.overflowing session b (loadJudged (k .windows) a b) ≡ Granted place → ((i : ℕ) → getD image i 0 < 256) → offset + 12 + 4 * ((b + 3) / 4) ≤ length image
       → Same (step.performed command.Load session m image)
-      (afterWords (doneWith opcode command.Load (begun k) m (a ∷ b ∷ [])) (wordsAt image (offset + 12) ((b + 3) / 4)))
+      (afterWords (doneWith opcode command.Load (begun command.Load k) m (a ∷ b ∷ [])) (wordsAt image (offset + 12) ((b + 3) / 4)))
   unfolding doneAtLast
   load-granted-same a b p r place judged small there =
-      let reached : Core = asking (begun k) command.Load 1 (machine.keeping noneKept a) in
+      let reached : Core = asking (begun command.Load k) command.Load 1 (machine.keeping noneKept a) in
       let words : List ℕ = wordsAt image (offset + 12) ((b + 3) / 4) in
       let in-flash = sym (load-read session m image p r (sym judged)) ∙ load-whole session m image a b place there in
       let sent = load-in-pieces reached m (machine.keeping noneKept a) b place words judged (words-length image ((b + 3) / 4) (offset + 12)) in
@@ -183,13 +302,20 @@ module _ (k : Core) (offset size limit retries fetched : ℕ) (m image : List �
       (sent
       ∙ ap
       (λ (bytes : List ℕ). machine._leaving_
-      (machine.quiet (machine.await reached (pick (k .on) (loadFed (k .tally .register) a bytes) (k .tally .register)) Opcode)) (loaded m place bytes))
+      (machine.quiet
+      (machine.await reached (machine.tallied (pick (k .on) (loadFed (k .tally .register) a bytes) (k .tally .register)) (machine.countedOn reached b)) Opcode))
+      (loaded m place bytes))
       (data-bytes image small b (offset + 12) there)))
-      (record { refusal = refl; event = refl; memory = refl; alike = record { windows = refl; ended = refl; on = refl; register = refl } })
+      (record {
+        refusal = refl;
+        event = refl;
+        memory = refl;
+        alike = record { windows = refl; dialect = refl; ended = refl; on = refl; register = refl; totals = counted-settled (k .dialect) (k .tally .totals) b };
+      })
 
 -- a call comes to the command of its row, its words fetched
 called : (s : Session) (m image : List ℕ) (k : Core) → Before s m image k → (c : Command) (words : ℕ)
-    → lookedUp (wordAt image (s .offset)) Flash ≡ Known c words → s .offset + 4 + 4 * words ≤ length image
+    → lookedUp (wordAt image (s .offset)) Flash (s .dialect) ≡ Known c words → s .offset + 4 + 4 * words ≤ length image
     → stepOf s m image ≡ step.performed c (flash.fetching (1 + words) s) m image
 called s m image k b c words known there =
     call-row s m image (b .running) (b .lent) (b .sound) (b .present) ∙ row-whole s m image known there
@@ -211,26 +337,27 @@ requested-quiet s expected seek =
     (λ e. of-choice (Quiet s) _ (λ e. record { event = refl; on = refl; register = refl }) (λ e. sought-quiet s (soughtFrom (s .offset) seek)))
 
 -- the three laws, for the flash session that is like the sent one
-module _ (m image : List ℕ) (k : Core) (offset size limit retries fetched : ℕ) (b : Before (like k offset size limit retries fetched) m image k) where
+module _ (m image : List ℕ) (k : Core) (offset size limit retries fetched : ℕ)
+    (b : Before (like k (settled (k .tally .totals)) offset size limit retries fetched) m image k) where
   abbrev here : Session
-  here = like k offset size limit retries fetched
+  here = like k (settled (k .tally .totals)) offset size limit retries fetched
 
   abbrev word : ℕ
   word = wordAt image offset
 
   -- what the words sent come to
-  sent-done : (c : Command) (words : ℕ) → lookedUp word Sent ≡ Known c words
-      → sentWith here m image k (wordsAt image (offset + 4) words) ≡ doneWith word c (begun k) m (wordsAt image (offset + 4) words)
+  sent-done : (c : Command) (words : ℕ) → lookedUp word Sent (k .dialect) ≡ Known c words
+      → sentWith here m image k (wordsAt image (offset + 4) words) ≡ doneWith word c (begun c k) m (wordsAt image (offset + 4) words)
   sent-done c words known = by-the-table .done k m word c words (wordsAt image (offset + 4) words) (b .awaits) known (words-length image words (offset + 4))
 
-  command-like : (c : Command) (words : ℕ) → (c ≡ command.Load → ⊥) → RowsOf word c words words → offset + 4 + 4 * words ≤ length image
+  command-like : (c : Command) (words : ℕ) → (c ≡ command.Load → ⊥) → RowsOf (k .dialect) word c words words → offset + 4 + 4 * words ≤ length image
       → Same (stepOf here m image) (sentWith here m image k (wordsAt image (offset + 4) words))
   command-like c words other rows there =
       subst₂ Same (sym (called here m image k b c words (rows .in-flash) there)) (sym (sent-done c words (rows .in-sent)))
-      (by-command k offset size limit retries (flash.countedOn fetched (1 + words)) m image word c words other (row-is Flash word c words (rows .in-flash))
-      (row-is Sent word c words (rows .in-sent)))
+      (by-command k offset size limit retries (flash.countedOn fetched (1 + words)) m image word c words other (row-is Flash (k .dialect) word c words (rows .in-flash))
+      (row-is Sent (k .dialect) word c words (rows .in-sent)))
 
-  load-like : RowsOf word command.Load 2 2 → offset + 12 ≤ length image → SameLoad here m image k
+  load-like : RowsOf (k .dialect) word command.Load 2 2 → offset + 12 ≤ length image → SameLoad here m image k
   unfolding wordsAt argument
   load-like rows there =
       let first = argument-at here image 0 (offset + 4) (omega arith) in
@@ -247,13 +374,13 @@ module _ (m image : List ℕ) (k : Core) (offset size limit retries fetched : �
             ∙ ap (λ (o : machine.Outcome). afterWords o (wordsAt image (offset + 12) ((argument here image 1 + 3) / 4))) in-sent))
             (subst
             (λ (n : ℕ). Same (step.performed command.Load (flash.fetching 3 here) m image)
-            (afterWords (doneWith word command.Load (begun k) m (wordsAt image (offset + 4) 2)) (wordsAt image (offset + 12) ((n + 3) / 4))))
+            (afterWords (doneWith word command.Load (begun command.Load k) m (wordsAt image (offset + 4) 2)) (wordsAt image (offset + 12) ((n + 3) / 4))))
             second
             (load-granted-same k offset size limit retries (flash.countedOn fetched 3) m image word _ _ first second place (rw (first, second) judged) (b .bytes)
             (rw second all)));
       }
 
-  request-like : RowsOf word command.Request 2 0 → offset + 12 ≤ length image → RequestByMode here m image k
+  request-like : RowsOf (k .dialect) word command.Request 2 0 → offset + 12 ≤ length image → RequestByMode here m image k
   unfolding wordsAt afterWords acknowledging pick argument step.requested
   request-like rows there =
       let in-flash = called here m image k b command.Request 2 (rows .in-flash) (omega arith) in
@@ -265,7 +392,19 @@ module _ (m image : List ℕ) (k : Core) (offset size limit retries fetched : �
         match = λ same.
             subst (λ (o : flash.Outcome). Same o (requestSent here m image k))
             (sym (in-flash ∙ ap (λ (a : Called). flash._leaving_ a m) (chosen _ _ _ (eq-eqb _ _ same))))
-            (record { refusal = refl; event = refl; memory = refl; alike = record { windows = refl; ended = refl; on = refl; register = refl } });
+            (record {
+              refusal = refl;
+              event = refl;
+              memory = refl;
+              alike = record {
+                windows = refl;
+                dialect = refl;
+                ended = refl;
+                on = refl;
+                register = refl;
+                totals = sym (settled-asking (settled (k .tally .totals)));
+              };
+            });
         memory = ap (λ (o : flash.Outcome). o .memory) in-flash;
         event = ap (λ (a : Called). a .event) answer ∙ quiet .event;
         on = ap (λ (a : Called). a .session .on) answer ∙ quiet .on;
@@ -277,30 +416,61 @@ both-modes =
     record {
       commands = λ s m image k b.
           subst
-          (λ (x : Session). Before x m image k → (c : Command) (words : ℕ) → (c ≡ command.Load → ⊥) → RowsOf (wordAt image (x .offset)) c words words
+          (λ (x : Session). Before x m image k → (c : Command) (words : ℕ) → (c ≡ command.Load → ⊥) → RowsOf (k .dialect) (wordAt image (x .offset)) c words words
           → x .offset + 4 + 4 * words ≤ length image → Same (stepOf x m image) (sentWith x m image k (wordsAt image (x .offset + 4) words)))
           (sym (alike-like s k (b .alike))) (command-like m image k (s .offset) (s .length) (s .limit) (s .retries) (s .fetched)) b;
       load = λ s m image k b.
           subst
-          (λ (x : Session). Before x m image k → RowsOf (wordAt image (x .offset)) command.Load 2 2 → x .offset + 12 ≤ length image → SameLoad x m image k)
+          (λ (x : Session). Before x m image k → RowsOf (k .dialect) (wordAt image (x .offset)) command.Load 2 2 → x .offset + 12 ≤ length image → SameLoad x m image k)
           (sym (alike-like s k (b .alike))) (load-like m image k (s .offset) (s .length) (s .limit) (s .retries) (s .fetched)) b;
       request = λ s m image k b.
           subst
-          (λ (x : Session). Before x m image k → RowsOf (wordAt image (x .offset)) command.Request 2 0 → x .offset + 12 ≤ length image
+          (λ (x : Session). Before x m image k → RowsOf (k .dialect) (wordAt image (x .offset)) command.Request 2 0 → x .offset + 12 ≤ length image
           → RequestByMode x m image k)
           (sym (alike-like s k (b .alike))) (request-like m image k (s .offset) (s .length) (s .limit) (s .retries) (s .fetched)) b;
     }
 
 -- the rows, by computing
+load-rows : (dialect : Dialect) → RowsOf dialect 0x58535901 command.Load 2 2
+unfolding lookedUp foundIn rows rowServes pick
+load-rows Am17xx = record { in-flash = refl; in-sent = refl }
+load-rows Dm648 = record { in-flash = refl; in-sent = refl }
+
+fill-rows : (dialect : Dialect) → RowsOf dialect 0x5853590A command.Fill 4 4
+unfolding lookedUp foundIn rows rowServes pick
+fill-rows Am17xx = record { in-flash = refl; in-sent = refl }
+fill-rows Dm648 = record { in-flash = refl; in-sent = refl }
+
+boot-table-rows : (dialect : Dialect) → RowsOf dialect 0x58535907 command.BootTable 4 4
+unfolding lookedUp foundIn rows rowServes pick
+boot-table-rows Am17xx = record { in-flash = refl; in-sent = refl }
+boot-table-rows Dm648 = record { in-flash = refl; in-sent = refl }
+
+enable-rows : (dialect : Dialect) → RowsOf dialect 0x58535903 command.Enable 0 0
+unfolding lookedUp foundIn rows rowServes pick
+enable-rows Am17xx = record { in-flash = refl; in-sent = refl }
+enable-rows Dm648 = record { in-flash = refl; in-sent = refl }
+
+disable-rows : (dialect : Dialect) → RowsOf dialect 0x58535904 command.Disable 0 0
+unfolding lookedUp foundIn rows rowServes pick
+disable-rows Am17xx = record { in-flash = refl; in-sent = refl }
+disable-rows Dm648 = record { in-flash = refl; in-sent = refl }
+
+request-rows : (dialect : Dialect) → RowsOf dialect 0x58535902 command.Request 2 0
+unfolding lookedUp foundIn rows rowServes pick
+request-rows Am17xx = record { in-flash = refl; in-sent = refl }
+request-rows Dm648 = record { in-flash = refl; in-sent = refl }
+
 pub shared-rows : SharedRows
 unfolding lookedUp foundIn rows rowServes pick
 shared-rows =
     record {
-      load = record { in-flash = refl; in-sent = refl };
-      fill = record { in-flash = refl; in-sent = refl };
-      boot-table = record { in-flash = refl; in-sent = refl };
-      enable = record { in-flash = refl; in-sent = refl };
-      disable = record { in-flash = refl; in-sent = refl };
-      request = record { in-flash = refl; in-sent = refl };
+      load = load-rows;
+      fill = fill-rows;
+      boot-table = boot-table-rows;
+      enable = enable-rows;
+      disable = disable-rows;
+      request = request-rows;
       jump-and-close = record { in-flash = refl; in-sent = refl };
+      with-totals = record { in-flash = refl; in-sent = refl };
     }

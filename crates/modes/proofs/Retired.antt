@@ -17,9 +17,9 @@ jump-refused =
     record {
       called = λ s m image running lent sound present jump.
           call-row s m image running lent sound present
-          ∙ ap (λ (word : ℕ). atRow s m image (lookedUp word Flash)) jump
-          ∙ ap (λ (f : Found). atRow s m image f) (exactly-jump .retired Flash);
+          ∙ ap (λ (word : ℕ). atRow s m image (lookedUp word Flash (s .dialect))) jump
+          ∙ ap (λ (f : Found). atRow s m image f) (exactly-jump .retired Flash (s .dialect));
       sent = λ k m awaits.
           ap (λ (p : Phase). inPhase p k m 0x58535905) awaits
-          ∙ ap (λ (f : Found). atOpcode k m 0x58535905 f) (exactly-jump .retired Sent);
+          ∙ ap (λ (f : Found). atOpcode k m 0x58535905 f) (exactly-jump .retired Sent (k .dialect));
     }

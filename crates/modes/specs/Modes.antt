@@ -10,29 +10,35 @@ use Rattle.windows.specs.Window.{sumOf}
 use Rattle.script.specs.Opcodes.{lookedUp}
 use Rattle.script.specs.declared.Command.{Command}
 use Rattle.script.specs.declared.Command.the-variants.{Load, Fill, BootTable, Enable, Disable, Request, JumpAndClose}
+use Rattle.script.specs.declared.Dialect.{Dialect}
+use Rattle.script.specs.declared.Dialect.the-variants.{Am17xx, Dm648}
 use Rattle.script.specs.declared.Found.the-variants.{Known}
 use Rattle.script.specs.declared.Mode.the-variants.{Flash, Sent}
 use Rattle.script.specs.declared.Refusal.{Refusal}
+use Rattle.totals.specs.Totals.{settled}
 use Rattle.commands.specs.Commands.{loadJudged}
 use Rattle.commands.specs.declared.Judged.{Judged}
 use Rattle.commands.specs.declared.Judged.the-variants.{Granted, Refused}
 use Rattle.flash.specs.Opening.{goodLength}
 use Rattle.flash.specs.Sessions as flash
-use Rattle.flash.specs.Step.{argument, requested, stepOf}
+use Rattle.flash.specs.Step.{argument, overflowing, requested, stepOf}
 use Rattle.flash.specs.declared.Session.{Session}
 use Rattle.sent.specs.Machine as machine
-use Rattle.sent.specs.Machine.{said, _leaving_, begun, await, wordStep}
+use Rattle.sent.specs.Machine.{said, _leaving_, registered, begun, await, wordStep}
 use Rattle.sent.specs.Replies.{oneWord, wordThen, acknowledged}
 use Rattle.sent.specs.Words.{afterWords}
 use Rattle.sent.specs.declared.Core.{Core}
 use Rattle.sent.specs.declared.Phase.the-variants.{Opcode}
 
--- a flash session and a sent one agree in all that both have: the windows, the end, the switch and the register
+-- a flash session and a sent one agree in all that both have: the windows, the dialect, the end, the switch, the register, and the totals once a Request that stands
+-- is settled
 pub record Alike (s : Session) (k : Core) : Type 0 where
   pub windows : s .windows ≡ k .windows
+  pub dialect : s .dialect ≡ k .dialect
   pub ended : s .ended ≡ k .ended
   pub on : s .on ≡ k .on
   pub register : s .register ≡ k .tally .register
+  pub totals : s .totals ≡ settled (k .tally .totals)
 
 -- a call, and the last of some words sent, came to the same
 pub record Same (called : flash.Outcome) (taken : machine.Outcome) : Type 0 where
@@ -69,16 +75,17 @@ module _ (s : Session) (m image : List ℕ) (k : Core) where
   loadSize = argument s image 1
 
   abbrev pub loadIs : Judged
-  loadIs = loadJudged (s .windows) (argument s image 0) loadSize
+  loadIs = overflowing s loadSize (loadJudged (s .windows) (argument s image 0) loadSize)
 
   pub record SameLoad : Type 0 where
     pub refused : (q : Refusal) → loadIs ≡ Refused q → Same (stepOf s m image) (sentWith (wordsAt image (s .offset + 4) 2))
     pub granted : (place : ℕ) → loadIs ≡ Granted place → s .offset + 12 + 4 * ((loadSize + 3) / 4) ≤ length image
         → Same (stepOf s m image) (sentWith (wordsAt image (s .offset + 4) 2 ++ wordsAt image (s .offset + 12) ((loadSize + 3) / 4)))
 
-  -- Request differs. Sent, it has no argument: the register is said and becomes 0, and the session goes on
+  -- Request differs. Sent, it has no argument: the register is said and becomes 0, the Request stands unsettled, and the session goes on
   abbrev pub requestSent : machine.Outcome
-  requestSent = said (wordThen (acknowledged opcodeAt) (oneWord (k .tally .register))) (await (begun k) 0 Opcode) leaving m
+  requestSent =
+      said (wordThen (acknowledged opcodeAt) (oneWord (k .tally .register))) (await (begun Request k) (registered (begun Request k) 0) Opcode) leaving m
 
   -- in flash mode it has two, the expected value and the seek, and so three words are fetched. A match comes to the same; a mismatch goes back or ends the session, as `requested` says,
   -- and differs in nothing else: memory, event, switch, and the register, which is 0 either way
@@ -91,28 +98,29 @@ module _ (s : Session) (m image : List ℕ) (k : Core) where
     pub on : stepOf s m image .answer .session .on ≡ requestSent .answer .core .on
     pub register : stepOf s m image .answer .session .register ≡ requestSent .answer .core .tally .register
 
--- an opcode's rows in both modes
-pub record RowsOf (opcode : ℕ) (command : Command) (flash sent : ℕ) : Type 0 where
-  pub in-flash : lookedUp opcode Flash ≡ Known command flash
-  pub in-sent : lookedUp opcode Sent ≡ Known command sent
+-- an opcode's rows in both modes, in a dialect
+pub record RowsOf (dialect : Dialect) (opcode : ℕ) (command : Command) (flash sent : ℕ) : Type 0 where
+  pub in-flash : lookedUp opcode Flash dialect ≡ Known command flash
+  pub in-sent : lookedUp opcode Sent dialect ≡ Known command sent
 
 -- both modes, at any command that both have
 pub record BothModes : Type 0 where
   pub commands : (s : Session) (m image : List ℕ) (k : Core) → Before s m image k
-      → (command : Command) (words : ℕ) → (command ≡ Load → ⊥) → RowsOf (opcodeAt s m image k) command words words
+      → (command : Command) (words : ℕ) → (command ≡ Load → ⊥) → RowsOf (k .dialect) (opcodeAt s m image k) command words words
       → s .offset + 4 + 4 * words ≤ length image
       → Same (stepOf s m image) (sentWith s m image k (wordsAt image (s .offset + 4) words))
   pub load : (s : Session) (m image : List ℕ) (k : Core) → Before s m image k
-      → RowsOf (opcodeAt s m image k) Load 2 2 → s .offset + 12 ≤ length image → SameLoad s m image k
+      → RowsOf (k .dialect) (opcodeAt s m image k) Load 2 2 → s .offset + 12 ≤ length image → SameLoad s m image k
   pub request : (s : Session) (m image : List ℕ) (k : Core) → Before s m image k
-      → RowsOf (opcodeAt s m image k) Request 2 0 → s .offset + 12 ≤ length image → RequestByMode s m image k
+      → RowsOf (k .dialect) (opcodeAt s m image k) Request 2 0 → s .offset + 12 ≤ length image → RequestByMode s m image k
 
 -- which these are
 pub record SharedRows : Type 0 where
-  pub load : RowsOf 0x58535901 Load 2 2
-  pub fill : RowsOf 0x5853590A Fill 4 4
-  pub boot-table : RowsOf 0x58535907 BootTable 4 4
-  pub enable : RowsOf 0x58535903 Enable 0 0
-  pub disable : RowsOf 0x58535904 Disable 0 0
-  pub request : RowsOf 0x58535902 Request 2 0
-  pub jump-and-close : RowsOf 0x58535906 JumpAndClose 1 1
+  pub load : (dialect : Dialect) → RowsOf dialect 0x58535901 Load 2 2
+  pub fill : (dialect : Dialect) → RowsOf dialect 0x5853590A Fill 4 4
+  pub boot-table : (dialect : Dialect) → RowsOf dialect 0x58535907 BootTable 4 4
+  pub enable : (dialect : Dialect) → RowsOf dialect 0x58535903 Enable 0 0
+  pub disable : (dialect : Dialect) → RowsOf dialect 0x58535904 Disable 0 0
+  pub request : (dialect : Dialect) → RowsOf dialect 0x58535902 Request 2 0
+  pub jump-and-close : RowsOf Am17xx 0x58535906 JumpAndClose 1 1
+  pub with-totals : RowsOf Dm648 0x58535906 JumpAndClose 3 3

@@ -1,5 +1,5 @@
--- Where an attempt begins: after an Enable, a Request or a Start-Over that was taken as an opcode, since each puts the register to 0; and after the
--- answered start unit, since from the opening on the register is 0 until an opcode is acknowledged. What a session has gathered and the memory that it is
+-- Where an attempt begins: after an Enable, a Request or a Start-Over that was taken as an opcode, since each puts the register to 0 and levels the totals; and
+-- after the answered start unit, since from the opening on both are 0 until an opcode is acknowledged. What a session has gathered and the memory that it is
 -- lent are as they must be, since units keep them so.
 use Prim.Native.Nat.{ℕ}
 use mathlib.Core.Bool.{Bool, true, false, not, _&&_, _||_, or-true}
@@ -13,29 +13,35 @@ use Rattle.words.specs.Choice.{pick}
 use Rattle.words.proofs.Choice.{both}
 use Rattle.windows.specs.Window.{sumOf}
 use Rattle.windows.specs.declared.Window.{Window}
-use Rattle.script.specs.Opcodes.{rows, rowServes, foundIn, lookedUp}
 use Rattle.script.specs.declared.Command.the-variants as command
+use Rattle.script.specs.declared.Dialect.{Dialect}
+use Rattle.totals.specs.Attempts.{Level}
+use Rattle.totals.specs.Totals.{turned}
+use Rattle.totals.specs.declared.Totals.{Totals}
+use Rattle.totals.proofs.Attempts.{level-there}
 use Rattle.sent.specs.Bus.{startUnit, unitsOf}
-use Rattle.sent.specs.Feeding.{State, AreBytes, next, heard, fed}
+use Rattle.sent.specs.Feeding.{State, AreBytes, totals, next, heard, fed}
 use Rattle.sent.specs.Line.{Outcome, isStart}
-use Rattle.sent.specs.Machine.{acknowledging}
+use Rattle.sent.specs.Machine.{tallied, acknowledging}
 use Rattle.sent.specs.Replies.{startAnswer}
 use Rattle.sent.specs.declared.Bus.{Bus}
 use Rattle.sent.specs.declared.Reply.{Reply}
+use Rattle.sent.specs.declared.Tally.{Tally}
 use Rattle.sent.proofs.Cases.{unit-start}
 use Rattle.retries.specs.Pieces.{enableOpcode, requestOpcode, startOverOpcode}
-use Rattle.retries.specs.Retries.{Awaits, Begins, Reached, Whole, Idle, AtStart, JustAfter, after-start, after-enable, after-request, after-start-over, Beginnings}
+use Rattle.retries.specs.Retries.{Awaits, Begins, Reached, Whole, Idle, AtStart, JustAfter, after-start, after-enable, after-request, after-start-over, afterRequest, Beginnings}
 use Rattle.retries.proofs.Reached.{reached-sound, StartUnit, answered-start}
-use Rattle.retries.proofs.Taking.{awaiting, opcode-goes, request-goes, start-over-goes}
+use Rattle.retries.proofs.Taking.{enable-row, awaiting, opcode-goes, request-goes, start-over-goes}
 
 -- the state that awaits an opcode, written out
 pub awaits-awaiting : (x : State) → Awaits x
-    → x ≡ awaiting (x .session .core .windows) (x .session .core .on) (x .session .core .begun) (x .session .core .tally .register) (x .memory)
+    → x ≡ awaiting (x .session .core .windows) (x .session .core .dialect) (x .session .core .on) (x .session .core .begun) (x .session .core .tally) (x .memory)
 awaits-awaiting x b =
     λ i. record {
       session = record {
         core = record {
           windows = x .session .core .windows;
+          dialect = x .session .core .dialect;
           ended = b .running i;
           on = x .session .core .on;
           begun = x .session .core .begun;
@@ -47,34 +53,49 @@ awaits-awaiting x b =
       memory = x .memory;
     }
 
--- one whose register is 0
-rewound-begins : (windows : List Window) (on begun : Bool) (m : List ℕ) → length m ≡ sumOf windows → AreBytes m → Begins (awaiting windows on begun 0 m)
-rewound-begins windows on begun m lent are =
+-- one whose register is 0 and whose totals are level
+rewound-begins : (windows : List Window) (dialect : Dialect) (on begun : Bool) (t : Totals) (m : List ℕ) → length m ≡ sumOf windows → AreBytes m → Level t
+    → Begins (awaiting windows dialect on begun (tallied 0 t) m)
+rewound-begins windows dialect on begun t m lent are level =
     record {
       awaits = record { running = refl; lent = lent; bytes = are; started = refl; fresh = (refl, refl); opcode = refl };
       rewound = refl;
+      level = level;
     }
 
--- an opcode that leaves a register of 0
-opcode-begins : (bus : Bus) (x : State) (us : List ℕ) (on : Bool) → Awaits x
-    → fed bus (awaiting (x .session .core .windows) (x .session .core .on) (x .session .core .begun) (x .session .core .tally .register) (x .memory)) us
-    ≡ awaiting (x .session .core .windows) on true 0 (x .memory)
-    → Begins (fed bus x us)
-opcode-begins bus x us on a e =
-    subst Begins (sym (ap (λ (y : State). fed bus y us) (awaits-awaiting x a) ∙ e)) (rewound-begins _ on true (x .memory) (a .lent) (a .bytes))
+-- an opcode that leaves a register of 0 and these totals
+record Rewinds (bus : Bus) (x : State) (opcode : ℕ) (t : Totals) : Type 0 where
+  on : Bool
+  leads : fed bus x (unitsOf bus opcode)
+      ≡ awaiting (x .session .core .windows) (x .session .core .dialect) on true (tallied 0 t) (x .memory)
+
+from-awaiting : (bus : Bus) (x : State) (opcode : ℕ) (t : Totals) (on : Bool) → Awaits x
+    → fed bus
+    (awaiting (x .session .core .windows) (x .session .core .dialect) (x .session .core .on) (x .session .core .begun) (x .session .core .tally) (x .memory))
+    (unitsOf bus opcode)
+    ≡ awaiting (x .session .core .windows) (x .session .core .dialect) on true (tallied 0 t) (x .memory)
+    → Rewinds bus x opcode t
+from-awaiting bus x opcode t on a e = record { on = on; leads = ap (λ (y : State). fed bus y (unitsOf bus opcode)) (awaits-awaiting x a) ∙ e }
+
+opcode-begins : (bus : Bus) (x : State) (opcode : ℕ) (t : Totals) → Awaits x → Level t → Rewinds bus x opcode t → Begins (fed bus x (unitsOf bus opcode))
+opcode-begins bus x opcode t a level rewinds =
+    subst Begins (sym (rewinds .leads)) (rewound-begins _ _ (rewinds .on) true t (x .memory) (a .lent) (a .bytes) level)
+
+opcode-asked : (bus : Bus) (x : State) (opcode : ℕ) (t : Totals) → Rewinds bus x opcode t → totals (fed bus x (unitsOf bus opcode)) .asked ≡ t .asked
+opcode-asked bus x opcode t rewinds = ap (λ (y : State). totals y .asked) (rewinds .leads)
 
 -- each of the three
-enable-begins : (bus : Bus) (x : State) → Awaits x → Begins (fed bus x (unitsOf bus enableOpcode))
-unfolding lookedUp foundIn rows rowServes pick acknowledging byte
-enable-begins bus x a =
-    opcode-begins bus x (unitsOf bus enableOpcode) true a
-    (opcode-goes bus _ _ _ _ _ (a .lent) enableOpcode command.Enable (record { small = lit< tt; no-byte = refl; no-half = refl }) refl refl .leads)
+enable-rewinds : (bus : Bus) (x : State) → Awaits x → Rewinds bus x enableOpcode (turned command.Enable (totals x))
+unfolding pick acknowledging byte
+enable-rewinds bus x a =
+    from-awaiting bus x enableOpcode _ true a
+    (opcode-goes bus _ _ _ _ _ _ (a .lent) enableOpcode command.Enable (record { small = lit< tt; no-byte = refl; no-half = refl }) (enable-row _) refl .leads)
 
-request-begins : (bus : Bus) (x : State) → Awaits x → Begins (fed bus x (unitsOf bus requestOpcode))
-request-begins bus x a = opcode-begins bus x (unitsOf bus requestOpcode) _ a (request-goes bus _ _ _ _ _ (a .lent) .leads)
+request-rewinds : (bus : Bus) (x : State) → Awaits x → Rewinds bus x requestOpcode (turned command.Request (totals x))
+request-rewinds bus x a = from-awaiting bus x requestOpcode _ _ a (request-goes bus _ _ _ _ _ _ (a .lent) .leads)
 
-start-over-begins : (bus : Bus) (x : State) → Awaits x → Begins (fed bus x (unitsOf bus startOverOpcode))
-start-over-begins bus x a = opcode-begins bus x (unitsOf bus startOverOpcode) _ a (start-over-goes bus _ _ _ _ _ (a .lent) .leads)
+start-over-rewinds : (bus : Bus) (x : State) → Awaits x → Rewinds bus x startOverOpcode (turned command.StartOver (totals x))
+start-over-rewinds bus x a = from-awaiting bus x startOverOpcode _ _ a (start-over-goes bus _ _ _ _ _ _ (a .lent) .leads)
 
 -- what a start unit that is answered says of the line: it was never started, or is at a word's beginning before an opcode is acknowledged
 at-word : (started begun : Bool) (have : ℕ) → (not started || (eqb have 0 && not begun)) ≡ true → (started ≡ false → (have ≡ 0) × (begun ≡ false))
@@ -138,19 +159,39 @@ module _ (bus : Bus) (x : State) (r : Reached bus x) where
             fresh = (at .fresh, sound .gathered (at .fresh));
             opcode = sound .unbegun (at .before) .1;
           };
-          rewound = sound .unbegun (at .before) .0;
+          rewound = ap (λ (t : Tally). t .register) (sound .unbegun (at .before) .0);
+          level = subst Level (sym (ap (λ (t : Tally). t .totals) (sound .unbegun (at .before) .0))) (level-there .at-opening);
         })
+
+    start-asked : totals (next bus x u) .asked ≡ false
+    start-asked =
+        ap (λ (o : Outcome). o .answer .session .core .tally .totals .asked)
+        (unit-start bus (x .session) (x .memory) u (start-unit .running) (start-unit .lent) (start-unit .start))
+        ∙ ap (λ (t : Tally). t .totals .asked) (reached-sound bus x r .unbegun (only-start .2 .before) .0)
 
 just-after-begins : (bus : Bus) (x : State) → JustAfter bus x → Begins x
 just-after-begins bus x (after-start {x = y} u r answered) = start-begins bus y r u answered
-just-after-begins bus x (after-enable {x = y} r idle) = enable-begins bus y (reached-awaits bus y r idle)
-just-after-begins bus x (after-request {x = y} r idle) = request-begins bus y (reached-awaits bus y r idle)
-just-after-begins bus x (after-start-over {x = y} r idle) = start-over-begins bus y (reached-awaits bus y r idle)
+just-after-begins bus x (after-enable {x = y} r idle) =
+    let a = reached-awaits bus y r idle in
+    opcode-begins bus y enableOpcode _ a (level-there .after-enable (totals y)) (enable-rewinds bus y a)
+just-after-begins bus x (after-request {x = y} r idle) =
+    let a = reached-awaits bus y r idle in
+    opcode-begins bus y requestOpcode _ a (level-there .after-request (totals y)) (request-rewinds bus y a)
+just-after-begins bus x (after-start-over {x = y} r idle) =
+    let a = reached-awaits bus y r idle in
+    opcode-begins bus y startOverOpcode _ a (level-there .after-start-over (totals y)) (start-over-rewinds bus y a)
+
+just-after-asked : (bus : Bus) (x : State) (j : JustAfter bus x) → totals x .asked ≡ afterRequest j
+just-after-asked bus x (after-start {x = y} u r answered) = start-asked bus y r u answered
+just-after-asked bus x (after-enable {x = y} r idle) = opcode-asked bus y enableOpcode _ (enable-rewinds bus y (reached-awaits bus y r idle))
+just-after-asked bus x (after-request {x = y} r idle) = opcode-asked bus y requestOpcode _ (request-rewinds bus y (reached-awaits bus y r idle))
+just-after-asked bus x (after-start-over {x = y} r idle) = opcode-asked bus y startOverOpcode _ (start-over-rewinds bus y (reached-awaits bus y r idle))
 
 pub beginnings : (bus : Bus) → Beginnings bus
 beginnings bus =
     record {
       begins = just-after-begins bus;
+      unsettled = just-after-asked bus;
       awaits = reached-awaits bus;
       sound = reached-sound bus;
       answered = start-answered bus;

@@ -1,11 +1,13 @@
 -- The worked instance on either line, by computing and by the theorem; and the counterexamples, by computing.
 use Prim.Native.Nat.{ℕ, zero, suc, _<_, _^_}
-use mathlib.Core.Bool.{Bool, true, false, _&&_, false≢true}
+use mathlib.Core.Bool.{Bool, true, false, _&&_, true≢false, false≢true}
 use mathlib.Core.List.{List, [], _∷_, _++_, map}
 use mathlib.Core.Path.{_≡_, refl, sym, ap, _∙_}
 use lib.Dec.{eqb, ltb, lit<}
 use lib.ListN.{length, getD, replicate}
 use borrow.Author.Tests.{eqb-false, ltb-true}
+use Rattle.script.specs.declared.Dialect.{Dialect}
+use Rattle.script.specs.declared.Dialect.the-variants.{Am17xx, Dm648}
 use Rattle.script.specs.declared.Event.the-variants.{Nothing}
 use Rattle.script.specs.declared.Refusal.{Refusal}
 use Rattle.script.specs.declared.Refusal.the-variants.{None, Memory}
@@ -17,9 +19,11 @@ use Rattle.checksum.specs.Checksum as checksum
 use Rattle.windows.specs.Window.{hasRight, inside, grantsRange, placeFrom, placeOf, sumOf}
 use Rattle.windows.specs.Map.{soundWindow, allSound, rising, goodMap, keptOf}
 use Rattle.script.specs.Opcodes.{rows, rowServes, foundIn, lookedUp}
+use Rattle.totals.specs.Attempts.{Level}
+use Rattle.totals.specs.Totals.{isPast}
 use Rattle.commands.specs.Commands.{multiple, rangeJudged, loadJudged, loaded, unitOf, unitsJudged, fieldShape, shapeOf, tooWide, settingDone, settingMemory}
 use Rattle.sent.specs.Bus.{startUnit, allUnits, pushed}
-use Rattle.sent.specs.Feeding.{State, Heard, AreBytes, register, heard, fed, answers, NoneRefused}
+use Rattle.sent.specs.Feeding.{State, Heard, AreBytes, register, totals, heard, fed, answers, NoneRefused}
 use Rattle.sent.specs.Line.{carried, isStart, unitStep}
 use Rattle.sent.specs.Machine.{after as afterCommand, awaited, acknowledging, wordStep}
 use Rattle.sent.specs.Opening.{openedBy}
@@ -27,7 +31,7 @@ use Rattle.sent.specs.Replies.{silence, startAnswer}
 use Rattle.sent.specs.declared.Bus.{Bus}
 use Rattle.sent.specs.declared.Bus.the-variants.{Bytes, Halves}
 use Rattle.sent.proofs.Feeding.{none-refused-by}
-use Rattle.retries.specs.Example.{windows, before, start, sent, abandoned, repeated, Worked, missing, OneBitMissed, middle, nothing, InTheMiddle, started, NothingFollows, shorter, short, MemoryTooShort}
+use Rattle.retries.specs.Example.{windows, before, start, sent, abandoned, repeated, oneLoad, Worked, missing, OneBitMissed, middle, nothing, InTheMiddle, requested, StartOverAlone, unmarked, NotLevel, started, NothingFollows, shorter, short, MemoryTooShort}
 use Rattle.retries.specs.Pieces.{allWords, AllSendable, effectOf, someWrites}
 use Rattle.retries.specs.Retries.{after, Awaits, sinceOpening, Reached, Idle, AtStart, JustAfter, after-start, after-enable, attemptWords, Retried}
 use Rattle.retries.proofs.Beginnings.{beginnings}
@@ -67,22 +71,24 @@ eight : {a b : ℕ} → a ≡ 8 → b ≡ 8 → a ≡ b
 eight e f = cc
 
 -- all that is computed of the instance
-record Computed (bus : Bus) : Type 0 where
-  answered : heard bus (sinceOpening bus 1 windows before []) (startUnit bus) .reply ≡ startAnswer bus
-  idle : Idle (started bus)
-  tried : refusals bus (start bus) (attemptWords abandoned) ≡ quiet bus (attemptWords abandoned)
-  after-tried : refusals bus (after bus (start bus) (attemptWords abandoned)) (allWords repeated) ≡ quiet bus (allWords repeated)
-  same-bits : (p : ℕ) → someWrites (start bus .session .core .windows) (abandoned .pieces) p ≡ someWrites (start bus .session .core .windows) repeated p
-  after-attempt : after bus (start bus) (attemptWords abandoned) .memory ≡ 0x2F ∷ 0x0F ∷ 0 ∷ 0 ∷ 1 ∷ 2 ∷ 3 ∷ 0xAA ∷ []
-  after-repeat : after bus (start bus) (attemptWords abandoned ++ allWords repeated) .memory ≡ 0x1F ∷ 0x02 ∷ 0 ∷ 0 ∷ 0x11 ∷ 0x22 ∷ 0x33 ∷ 0xAA ∷ []
-  never-tried : after bus (start bus) (allWords repeated) .memory ≡ 0x1F ∷ 0x02 ∷ 0 ∷ 0 ∷ 0x11 ∷ 0x22 ∷ 0x33 ∷ 0xAA ∷ []
+record Computed (bus : Bus) (dialect : Dialect) : Type 0 where
+  answered : heard bus (sinceOpening bus dialect 1 windows before []) (startUnit bus) .reply ≡ startAnswer bus
+  idle : Idle (started bus dialect)
+  tried : refusals bus (start bus dialect) (attemptWords abandoned) ≡ quiet bus (attemptWords abandoned)
+  after-tried : refusals bus (after bus (start bus dialect) (attemptWords abandoned)) (allWords repeated) ≡ quiet bus (allWords repeated)
+  same-bits : (p : ℕ) → someWrites (start bus dialect .session .core .windows) (abandoned .pieces) p ≡ someWrites (start bus dialect .session .core .windows) repeated p
+  after-attempt : after bus (start bus dialect) (attemptWords abandoned) .memory ≡ 0x2F ∷ 0x0F ∷ 0 ∷ 0 ∷ 1 ∷ 2 ∷ 3 ∷ 0xAA ∷ []
+  after-repeat : after bus (start bus dialect) (attemptWords abandoned ++ allWords repeated) .memory ≡ 0x1F ∷ 0x02 ∷ 0 ∷ 0 ∷ 0x11 ∷ 0x22 ∷ 0x33 ∷ 0xAA ∷ []
+  never-tried : after bus (start bus dialect) (allWords repeated) .memory ≡ 0x1F ∷ 0x02 ∷ 0 ∷ 0 ∷ 0x11 ∷ 0x22 ∷ 0x33 ∷ 0xAA ∷ []
+  counted : totals (after bus (start bus dialect) (attemptWords abandoned ++ allWords repeated)) .now ≡ oneLoad dialect
+  unasked : totals (start bus dialect) .asked ≡ false
 
-computed : (bus : Bus) → Computed bus
+computed : (bus : Bus) (dialect : Dialect) → Computed bus dialect
 unfolding bit join withField within byte number bytesAt put fits fieldFits fieldWritten pick checksum.shifted checksum.fedBit checksum.fed
     checksum.fedWords hasRight inside grantsRange placeFrom placeOf sumOf soundWindow allSound rising goodMap keptOf rows rowServes foundIn
-    lookedUp multiple rangeJudged loadJudged loaded unitOf unitsJudged fieldShape shapeOf tooWide settingDone settingMemory pushed carried isStart unitStep
+    lookedUp multiple rangeJudged loadJudged loaded unitOf unitsJudged fieldShape shapeOf tooWide settingDone settingMemory isPast pushed carried isStart unitStep
     afterCommand awaited acknowledging wordStep openedBy startAnswer start fed allWords answers started effectOf someWrites
-computed Bytes = record {
+computed Bytes Am17xx = record {
   answered = refl;
   idle = record { running = refl; started = refl; fresh = refl; opcode = refl };
   tried = refl;
@@ -91,8 +97,10 @@ computed Bytes = record {
   after-attempt = refl;
   after-repeat = refl;
   never-tried = refl;
+  counted = refl;
+  unasked = refl;
 }
-computed Halves = record {
+computed Bytes Dm648 = record {
   answered = refl;
   idle = record { running = refl; started = refl; fresh = refl; opcode = refl };
   tried = refl;
@@ -101,27 +109,70 @@ computed Halves = record {
   after-attempt = refl;
   after-repeat = refl;
   never-tried = refl;
+  counted = refl;
+  unasked = refl;
 }
+computed Halves Am17xx = record {
+  answered = refl;
+  idle = record { running = refl; started = refl; fresh = refl; opcode = refl };
+  tried = refl;
+  after-tried = refl;
+  same-bits = λ p. refl;
+  after-attempt = refl;
+  after-repeat = refl;
+  never-tried = refl;
+  counted = refl;
+  unasked = refl;
+}
+computed Halves Dm648 = record {
+  answered = refl;
+  idle = record { running = refl; started = refl; fresh = refl; opcode = refl };
+  tried = refl;
+  after-tried = refl;
+  same-bits = λ p. refl;
+  after-attempt = refl;
+  after-repeat = refl;
+  never-tried = refl;
+  counted = refl;
+  unasked = refl;
+}
+
+-- how many sections were counted
+abbrev sectionsOf : State → ℕ
+sectionsOf x = totals x .now .sections .0
 
 -- and of the counterexamples, under one opening of the definitions
 record Against : Type 0 where
-  after-missing : refusals Bytes (after Bytes (start Bytes) (attemptWords abandoned)) (allWords missing) ≡ quiet Bytes (allWords missing)
-  bit-left : eqb (getD (after Bytes (start Bytes) (attemptWords abandoned ++ allWords missing) .memory) 0 0) (getD (after Bytes (start Bytes) (allWords missing) .memory) 0 0) ≡ false
+  after-missing : refusals Bytes (after Bytes (start Bytes Am17xx) (attemptWords abandoned)) (allWords missing) ≡ quiet Bytes (allWords missing)
+  bit-left : eqb (getD (after Bytes (start Bytes Am17xx) (attemptWords abandoned ++ allWords missing) .memory) 0 0) (getD (after Bytes (start Bytes Am17xx) (allWords missing) .memory) 0 0) ≡ false
   awaits-middle : Awaits middle
+  level-middle : Level (totals middle)
   middle-tried : refusals Bytes middle (attemptWords nothing) ≡ quiet Bytes (attemptWords nothing)
   after-middle : refusals Bytes (after Bytes middle (attemptWords nothing)) (allWords repeated) ≡ quiet Bytes (allWords repeated)
   register-lost : eqb (register (after Bytes middle (attemptWords nothing ++ allWords repeated))) (register (after Bytes middle (allWords repeated))) ≡ false
-  started-tried : refusals Bytes (started Bytes) (attemptWords nothing) ≡ quiet Bytes (attemptWords nothing)
-  acknowledged-one : after Bytes (started Bytes) (attemptWords nothing ++ []) .session .core .begun ≡ true
-  acknowledged-none : after Bytes (started Bytes) [] .session .core .begun ≡ false
+  requested-tried : refusals Bytes requested (attemptWords nothing) ≡ quiet Bytes (attemptWords nothing)
+  after-requested : refusals Bytes (after Bytes requested (attemptWords nothing)) (allWords repeated) ≡ quiet Bytes (allWords repeated)
+  awaits-requested : Awaits requested
+  rewound-requested : register requested ≡ 0
+  level-requested : Level (totals requested)
+  total-lost : eqb (sectionsOf (after Bytes requested (attemptWords nothing ++ allWords repeated))) (sectionsOf (after Bytes requested (allWords repeated))) ≡ false
+  awaits-unmarked : Awaits unmarked
+  rewound-unmarked : register unmarked ≡ 0
+  settled-unmarked : totals unmarked .asked ≡ false
+  unmarked-tried : refusals Bytes unmarked (attemptWords nothing) ≡ quiet Bytes (attemptWords nothing)
+  after-unmarked : refusals Bytes (after Bytes unmarked (attemptWords nothing)) (allWords repeated) ≡ quiet Bytes (allWords repeated)
+  mark-lost : eqb (sectionsOf (after Bytes unmarked (attemptWords nothing ++ allWords repeated))) (sectionsOf (after Bytes unmarked (allWords repeated))) ≡ false
+  started-tried : refusals Bytes (started Bytes Am17xx) (attemptWords nothing) ≡ quiet Bytes (attemptWords nothing)
+  acknowledged-one : after Bytes (started Bytes Am17xx) (attemptWords nothing ++ []) .session .core .begun ≡ true
+  acknowledged-none : after Bytes (started Bytes Am17xx) [] .session .core .begun ≡ false
   short-at-start : AtStart short
   short-refused : heard Bytes short (startUnit Bytes) ≡ record { refusal = Memory; reply = silence; event = Nothing }
 
 against : Against
 unfolding bit join withField within byte number bytesAt put fits fieldFits fieldWritten pick checksum.shifted checksum.fedBit checksum.fed
     checksum.fedWords hasRight inside grantsRange placeFrom placeOf sumOf soundWindow allSound rising goodMap keptOf rows rowServes foundIn
-    lookedUp multiple rangeJudged loadJudged loaded unitOf unitsJudged fieldShape shapeOf tooWide settingDone settingMemory pushed carried isStart unitStep
-    afterCommand awaited acknowledging wordStep openedBy start fed allWords answers middle started short allSmall
+    lookedUp multiple rangeJudged loadJudged loaded unitOf unitsJudged fieldShape shapeOf tooWide settingDone settingMemory isPast pushed carried isStart unitStep
+    afterCommand awaited acknowledging wordStep openedBy start fed allWords answers middle requested unmarked started short allSmall
 against = record {
   after-missing = refl;
   bit-left = refl;
@@ -133,9 +184,36 @@ against = record {
     fresh = (refl, refl);
     opcode = refl;
   };
+  level-middle = refl;
   middle-tried = refl;
   after-middle = refl;
   register-lost = refl;
+  requested-tried = refl;
+  after-requested = refl;
+  awaits-requested = record {
+    running = refl;
+    lent = eight refl refl;
+    bytes = bytes-by (0x7F ∷ 0 ∷ 0 ∷ 0 ∷ 1 ∷ 2 ∷ 3 ∷ 0xAA ∷ []) refl;
+    started = refl;
+    fresh = (refl, refl);
+    opcode = refl;
+  };
+  rewound-requested = refl;
+  level-requested = refl;
+  total-lost = refl;
+  awaits-unmarked = record {
+    running = refl;
+    lent = eight refl refl;
+    bytes = bytes-by (0x7F ∷ 0 ∷ 0 ∷ 0 ∷ 1 ∷ 2 ∷ 3 ∷ 0xAA ∷ []) refl;
+    started = refl;
+    fresh = (refl, refl);
+    opcode = refl;
+  };
+  rewound-unmarked = refl;
+  settled-unmarked = refl;
+  unmarked-tried = refl;
+  after-unmarked = refl;
+  mark-lost = refl;
   started-tried = refl;
   acknowledged-one = refl;
   acknowledged-none = refl;
@@ -144,16 +222,16 @@ against = record {
 }
 
 -- units lead there from an opening, and the attempts begin just after the start unit and just after an Enable
-reached : (bus : Bus) (m units : List ℕ) → allSmall m ≡ true → Reached bus (sinceOpening bus 1 windows m units)
-reached bus m units small = record { count = 1; windows = windows; memory = m; sent = units; bytes = bytes-by m small; leads = refl }
+reached : (bus : Bus) (dialect : Dialect) (m units : List ℕ) → allSmall m ≡ true → Reached bus (sinceOpening bus dialect 1 windows m units)
+reached bus dialect m units small = record { dialect = dialect; count = 1; windows = windows; memory = m; sent = units; bytes = bytes-by m small; leads = refl }
 
-started-after : (bus : Bus) → JustAfter bus (started bus)
+started-after : (bus : Bus) (dialect : Dialect) → JustAfter bus (started bus dialect)
 unfolding started fed allSmall
-started-after bus = after-start (startUnit bus) (reached bus before [] refl) (computed bus .answered)
+started-after bus dialect = after-start (startUnit bus) (reached bus dialect before [] refl) (computed bus dialect .answered)
 
-start-after : (bus : Bus) → JustAfter bus (start bus)
+start-after : (bus : Bus) (dialect : Dialect) → JustAfter bus (start bus dialect)
 unfolding start started fed allSmall
-start-after bus = after-enable (reached bus before (startUnit bus ∷ []) refl) (computed bus .idle)
+start-after bus dialect = after-enable (reached bus dialect before (startUnit bus ∷ []) refl) (computed bus dialect .idle)
 
 -- the attempt, and what follows
 abandoned-sendable : AllSendable (abandoned .pieces)
@@ -163,36 +241,38 @@ repeat-sendable : (field : ℕ) → field < 2 ^ 32 → AllSendable (sent field 1
 repeat-sendable field h = sendable field 1 2 0xEE332211 h (lit< tt) (lit< tt) (lit< tt)
 
 -- the attempt and its repeat write the same bits
-pub worked : (bus : Bus) → Worked bus
-worked bus =
-    let retried : Retried bus (start bus) (attemptWords abandoned) (abandoned .pieces) repeated =
+pub worked : (bus : Bus) (dialect : Dialect) → Worked bus dialect
+worked bus dialect =
+    let retried : Retried bus (start bus dialect) (attemptWords abandoned) (abandoned .pieces) repeated =
     record {
-      begins = beginnings bus .begins (start bus) (start-after bus);
+      begins = beginnings bus .begins (start bus dialect) (start-after bus dialect);
+      not-alone = λ stands. absurd (true≢false (sym stands ∙ computed bus dialect .unasked));
       accepted = record {
         sendable = (abandoned-sendable, repeat-sendable 0x00060403 (lit< tt));
-        attempt-accepted = none-refused-by bus (start bus) (allUnits bus (attemptWords abandoned)) (computed bus .tried);
-        following-accepted = none-refused-by bus (after bus (start bus) (attemptWords abandoned)) (allUnits bus (allWords repeated)) (computed bus .after-tried);
+        attempt-accepted = none-refused-by bus (start bus dialect) (allUnits bus (attemptWords abandoned)) (computed bus dialect .tried);
+        following-accepted = none-refused-by bus (after bus (start bus dialect) (attemptWords abandoned)) (allUnits bus (allWords repeated)) (computed bus dialect .after-tried);
       };
-      covered = λ p h. sym (computed bus .same-bits p) ∙ h;
+      covered = λ p h. sym (computed bus dialect .same-bits p) ∙ h;
     } in
     record {
-      just-after = start-after bus;
+      just-after = start-after bus dialect;
       retried = retried;
-      no-trace = retries-leave-no-trace bus (start bus) abandoned _ _ retried;
-      after-attempt = computed bus .after-attempt;
-      after-repeat = computed bus .after-repeat;
-      never-tried = computed bus .never-tried;
+      no-trace = retries-leave-no-trace bus (start bus dialect) abandoned _ _ retried;
+      after-attempt = computed bus dialect .after-attempt;
+      after-repeat = computed bus dialect .after-repeat;
+      never-tried = computed bus dialect .never-tried;
+      counted = computed bus dialect .counted;
     }
 
 -- bit 6 of the first byte
 pub one-bit-missed : OneBitMissed
 one-bit-missed =
     record {
-      begins = beginnings Bytes .begins (start Bytes) (start-after Bytes);
+      begins = beginnings Bytes .begins (start Bytes Am17xx) (start-after Bytes Am17xx);
       accepted = record {
         sendable = (abandoned-sendable, repeat-sendable 0x00050403 (lit< tt));
-        attempt-accepted = none-refused-by Bytes (start Bytes) (allUnits Bytes (attemptWords abandoned)) (computed Bytes .tried);
-        following-accepted = none-refused-by Bytes (after Bytes (start Bytes) (attemptWords abandoned)) (allUnits Bytes (allWords missing)) (against .after-missing);
+        attempt-accepted = none-refused-by Bytes (start Bytes Am17xx) (allUnits Bytes (attemptWords abandoned)) (computed Bytes Am17xx .tried);
+        following-accepted = none-refused-by Bytes (after Bytes (start Bytes Am17xx) (attemptWords abandoned)) (allUnits Bytes (allWords missing)) (against .after-missing);
       };
       trace = λ none. eqb-false _ _ (against .bit-left) (ap (λ (x : State). getD (x .memory) 0 0) (none .same-state));
     }
@@ -203,6 +283,7 @@ unfolding AllSendable someWrites
 in-the-middle =
     record {
       awaits = against .awaits-middle;
+      level = against .level-middle;
       accepted = record {
         sendable = (tt, repeat-sendable 0x00060403 (lit< tt));
         attempt-accepted = none-refused-by Bytes middle (allUnits Bytes (attemptWords nothing)) (against .middle-tried);
@@ -212,16 +293,47 @@ in-the-middle =
       trace = λ none. eqb-false _ _ (against .register-lost) (ap register (none .same-state));
     }
 
+-- a section
+pub start-over-alone : StartOverAlone
+unfolding AllSendable someWrites
+start-over-alone =
+    record {
+      begins = record { awaits = against .awaits-requested; rewound = against .rewound-requested; level = against .level-requested };
+      accepted = record {
+        sendable = (tt, repeat-sendable 0x00060403 (lit< tt));
+        attempt-accepted = none-refused-by Bytes requested (allUnits Bytes (attemptWords nothing)) (against .requested-tried);
+        following-accepted = none-refused-by Bytes (after Bytes requested (attemptWords nothing)) (allUnits Bytes (allWords repeated)) (against .after-requested);
+      };
+      covered = λ p h. absurd (false≢true h);
+      trace = λ none. eqb-false _ _ (against .total-lost) (ap sectionsOf (none .same-state));
+    }
+
+pub not-level : NotLevel
+unfolding AllSendable someWrites
+not-level =
+    record {
+      awaits = against .awaits-unmarked;
+      rewound = against .rewound-unmarked;
+      settled = against .settled-unmarked;
+      accepted = record {
+        sendable = (tt, repeat-sendable 0x00060403 (lit< tt));
+        attempt-accepted = none-refused-by Bytes unmarked (allUnits Bytes (attemptWords nothing)) (against .unmarked-tried);
+        following-accepted = none-refused-by Bytes (after Bytes unmarked (attemptWords nothing)) (allUnits Bytes (allWords repeated)) (against .after-unmarked);
+      };
+      covered = λ p h. absurd (false≢true h);
+      trace = λ none. eqb-false _ _ (against .mark-lost) (ap sectionsOf (none .same-state));
+    }
+
 -- whether an opcode has been acknowledged
 pub nothing-follows : NothingFollows
 unfolding AllSendable allWords NoneRefused
 nothing-follows =
     record {
-      just-after = started-after Bytes;
-      begins = beginnings Bytes .begins (started Bytes) (started-after Bytes);
+      just-after = started-after Bytes Am17xx;
+      begins = beginnings Bytes .begins (started Bytes Am17xx) (started-after Bytes Am17xx);
       accepted = record {
         sendable = (tt, tt);
-        attempt-accepted = none-refused-by Bytes (started Bytes) (allUnits Bytes (attemptWords nothing)) (against .started-tried);
+        attempt-accepted = none-refused-by Bytes (started Bytes Am17xx) (allUnits Bytes (attemptWords nothing)) (against .started-tried);
         following-accepted = tt;
       };
       trace = λ none.
@@ -232,4 +344,4 @@ nothing-follows =
 -- the length of memory
 pub memory-too-short : MemoryTooShort
 unfolding short allSmall
-memory-too-short = record { reached = reached Bytes shorter [] refl; at-start = against .short-at-start; refused = against .short-refused }
+memory-too-short = record { reached = reached Bytes Am17xx shorter [] refl; at-start = against .short-at-start; refused = against .short-refused }

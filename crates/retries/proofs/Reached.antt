@@ -9,9 +9,11 @@ use borrow.Author.Tests.{eqb-true, not-false}
 use Rattle.words.proofs.Choice.{by-test, of-choice}
 use Rattle.windows.specs.Window.{sumOf}
 use Rattle.windows.specs.declared.Window.{Window}
+use Rattle.script.specs.declared.Dialect.{Dialect}
+use Rattle.totals.specs.Totals.{atOpening}
 use Rattle.sent.specs.Feeding.{State, AreBytes, next, heard, fed}
 use Rattle.sent.specs.Line.{Outcome, gathered, carried, isStart, unitStep}
-use Rattle.sent.specs.Machine.{wordStep}
+use Rattle.sent.specs.Machine.{tallied, wordStep}
 use Rattle.sent.specs.Opening.{atStart, openedBy}
 use Rattle.sent.specs.Replies.{startAnswer}
 use Rattle.sent.specs.declared.Bus.{Bus}
@@ -23,9 +25,9 @@ use Rattle.sent.specs.declared.Phase.the-variants as phase
 use Rattle.sent.proofs.Every.{every-word}
 use Rattle.retries.specs.Retries.{Reached, opened, Sound}
 
--- until an opcode is acknowledged the register is 0 and an opcode is awaited
+-- until an opcode is acknowledged register and totals are 0 and an opcode is awaited
 abbrev pub Unbegun : Core → Type 0
-Unbegun k = k .begun ≡ false → (k .tally .register ≡ 0) × (k .stage .phase ≡ phase.Opcode)
+Unbegun k = k .begun ≡ false → (k .tally ≡ tallied 0 atOpening) × (k .stage .phase ≡ phase.Opcode)
 
 -- so it stays: a word that leaves none acknowledged leaves the core as it was, ended
 word-unbegun : (k : Core) (m : List ℕ) (word : ℕ) → Unbegun k → Unbegun (wordStep k m word .answer .core)
@@ -34,7 +36,7 @@ word-unbegun k m word unbegun e =
     let before : k .begun ≡ false = by-test (k .begun) (λ t. absurd (true≢false (sym (every .begun t) ∙ e))) (λ f. f) in
     let was = unbegun before in
     let same = every .unbegun (was .1) e in
-    (ap (λ (c : Core). c .tally .register) same ∙ was .0, ap (λ (c : Core). c .stage .phase) same ∙ was .1)
+    (ap (λ (c : Core). c .tally) same ∙ was .0, ap (λ (c : Core). c .stage .phase) same ∙ was .1)
 
 -- the state that a unit leaves
 abbrev stateOf : Outcome → State
@@ -92,8 +94,9 @@ module _ (windows : List Window) (size : ℕ) where
   fed-sound bus x (u ∷ us) sound = fed-sound bus (next bus x u) us (next-sound bus x u sound)
 
 -- at the opening, refused or not
-start-sound : (windows : List Window) (ended : Bool) (m : List ℕ) → AreBytes m → Sound windows (length m) (record { session = atStart windows ended; memory = m })
-start-sound windows ended m are =
+start-sound : (dialect : Dialect) (windows : List Window) (ended : Bool) (m : List ℕ) → AreBytes m
+    → Sound windows (length m) (record { session = atStart dialect windows ended; memory = m })
+start-sound dialect windows ended m are =
     record {
       same-windows = refl;
       same-length = refl;
@@ -104,17 +107,17 @@ start-sound windows ended m are =
       unbegun = λ e. (refl, refl);
     }
 
-opened-sound : (bus : Bus) (count : ℕ) (windows : List Window) (m : List ℕ) → AreBytes m
-    → Sound (openedBy bus count windows .session .core .windows) (length m) (record { session = openedBy bus count windows .session; memory = m })
+opened-sound : (bus : Bus) (dialect : Dialect) (count : ℕ) (windows : List Window) (m : List ℕ) → AreBytes m
+    → Sound (openedBy bus dialect count windows .session .core .windows) (length m) (record { session = openedBy bus dialect count windows .session; memory = m })
 unfolding openedBy
-opened-sound bus count windows m are =
+opened-sound bus dialect count windows m are =
     of-choice (λ (o : Opened). Sound (o .session .core .windows) (length m) (record { session = o .session; memory = m })) _
-    (λ h. start-sound _ true m are) (λ h. start-sound _ false m are)
+    (λ h. start-sound _ _ true m are) (λ h. start-sound _ _ false m are)
 
 pub reached-sound : (bus : Bus) (x : State) (r : Reached bus x) → Sound (opened r) (length (r .memory)) x
 reached-sound bus x r =
     subst (Sound (opened r) (length (r .memory))) (r .leads)
-    (fed-sound (opened r) (length (r .memory)) bus _ (r .sent) (opened-sound bus (r .count) (r .windows) (r .memory) (r .bytes)))
+    (fed-sound (opened r) (length (r .memory)) bus _ (r .sent) (opened-sound bus (r .dialect) (r .count) (r .windows) (r .memory) (r .bytes)))
 
 -- a unit that is the start unit, in a running session on memory of its map's length
 pub record StartUnit (bus : Bus) (x : State) (u : ℕ) : Type 0 where

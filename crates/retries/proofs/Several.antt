@@ -10,24 +10,29 @@ use Rattle.words.specs.Bytes.{bitAt}
 use Rattle.words.specs.Choice.{pick}
 use Rattle.windows.specs.Window.{sumOf}
 use Rattle.windows.specs.declared.Window.{Window}
+use Rattle.script.specs.declared.Dialect.{Dialect}
+use Rattle.totals.specs.Attempts.{wrote}
+use Rattle.totals.specs.declared.Totals.{Totals}
 use Rattle.effects.specs.Effects.{writes, becomes, Does}
 use Rattle.effects.proofs.Effects.{load-granted, fill-granted, setting-granted, same-bits}
-use Rattle.commands.specs.Commands.{loadJudged}
+use Rattle.commands.specs.Commands.{loadJudged, fillJudged, settingJudged}
 use Rattle.sent.specs.Bus.{allUnits}
 use Rattle.sent.specs.Feeding.{State, Heard, AreBytes, NoneRefused}
 use Rattle.sent.specs.declared.Bus.{Bus}
 use Rattle.sent.specs.declared.Bus.the-variants.{Bytes}
+use Rattle.sent.specs.declared.Tally.{Tally}
 use Rattle.sent.proofs.Feeding.{none-refused-words, Goes, nothing-goes, words-go}
 use Rattle.sent.proofs.Laws.{data-count}
 use Rattle.sent.proofs.Memory.{if-over, loaded-over, fill-over, setting-over, take-bytes, words-bytes}
 use Rattle.retries.specs.Pieces.{Piece, load, fill, setting, wordsOf, allWords, bytesLoaded, Sendable, AllSendable, judgedOf, effectOf, someWrites, Covers}
-use Rattle.retries.proofs.Accepted.{GrantedAt, piece-accepted}
-use Rattle.retries.proofs.Taking.{registerOf, memoryOf, heardOf, awaiting, piece-goes}
+use Rattle.sent.proofs.Granted.{GrantedAt}
+use Rattle.retries.proofs.Accepted.{piece-accepted}
+use Rattle.retries.proofs.Taking.{writeOf, passes, tallyOf, memoryOf, heardOf, awaiting, piece-goes}
 
--- the register and the memory after several commands, what is heard of them, and whether an opcode has been acknowledged
-unfoldable pub registersOf : Bool → List Piece → ℕ → ℕ
-registersOf on [] register = register
-registersOf on (c ∷ cs) register = registersOf on cs (registerOf on c register)
+-- register and totals, and the memory after several commands, what is heard of them, and whether an opcode has been acknowledged
+unfoldable pub talliesOf : Dialect → Bool → List Piece → Tally → Tally
+talliesOf dialect on [] tally = tally
+talliesOf dialect on (c ∷ cs) tally = talliesOf dialect on cs (tallyOf dialect on c tally)
 
 unfoldable pub memoriesOf : List Window → List Piece → List ℕ → List ℕ
 memoriesOf windows [] m = m
@@ -50,6 +55,11 @@ stays-begun (c ∷ cs) = stays-begun cs
 unfoldable pub AllGranted : List Window → List Piece → Type 0
 AllGranted windows [] = Unit {0}
 AllGranted windows (c ∷ cs) = GrantedAt (judgedOf windows c) × AllGranted windows cs
+
+-- and none takes a total past the largest
+unfoldable pub AllFit : Dialect → Totals → List Piece → Type 0
+AllFit dialect t [] = Unit {0}
+AllFit dialect t (c ∷ cs) = (passes dialect t (writeOf c) ≡ false) × AllFit dialect (wrote dialect t (writeOf c)) cs
 
 -- two lists of them
 pub sendable-append : (bs cs : List Piece) → AllSendable (bs ++ cs) → AllSendable bs × AllSendable cs
@@ -105,8 +115,8 @@ module _ (windows : List Window) where
   piece-bytes m are (load address size contents) =
       if-over m (loadJudged windows address size) _
       (λ place. loaded-over m place (bytesLoaded size contents) (take-bytes size (allUnits Bytes contents) (words-bytes contents))) .bytes are
-  piece-bytes m are (fill address size kind pattern) = fill-over windows m address size kind pattern .bytes are
-  piece-bytes m are (setting word address value delay) = setting-over windows m word address value .bytes are
+  piece-bytes m are (fill address size kind pattern) = fill-over (fillJudged windows address size kind) m size kind pattern .bytes are
+  piece-bytes m are (setting word address value delay) = setting-over (settingJudged windows word address value) m word value .bytes are
 
   -- so do several
   pub several-length : (cs : List Piece) (m : List ℕ) → length m ≡ sumOf windows → AllSendable cs → AllGranted windows cs
@@ -147,27 +157,28 @@ module _ (windows : List Window) where
       ∙ pick-over (someWrites windows attempt p) (someWrites windows following p) _ _ _ (covers p)
       ∙ sym (several-bits following m lent sf gf p (omega (arith, long, kept, h))))
 
-  module _ (bus : Bus) (on : Bool) where
+  module _ (bus : Bus) (dialect : Dialect) (on : Bool) where
     -- their words
-    pub several-go : (cs : List Piece) (begun : Bool) (register : ℕ) (m : List ℕ) → length m ≡ sumOf windows → AllSendable cs → AllGranted windows cs
-        → Goes bus (awaiting windows on begun register m) (allUnits bus (allWords cs))
-        (awaiting windows on (begunBy cs begun) (registersOf on cs register) (memoriesOf windows cs m)) (heardAll bus cs)
-    unfolding allWords begunBy registersOf memoriesOf heardAll AllSendable AllGranted
-    several-go [] begun register m lent s g = nothing-goes bus _
-    several-go (c ∷ cs) begun register m lent s g =
-        words-go (wordsOf c) (allWords cs) (piece-goes bus windows on begun register m lent c (s .0) (g .0 .granted))
-        (several-go cs true (registerOf on c register) (memoryOf windows c m) (piece-does m lent c (s .0) (g .0) .same-length ∙ lent) (s .1) (g .1))
+    pub several-go : (cs : List Piece) (begun : Bool) (tally : Tally) (m : List ℕ) → length m ≡ sumOf windows → AllSendable cs → AllGranted windows cs
+        → AllFit dialect (tally .totals) cs
+        → Goes bus (awaiting windows dialect on begun tally m) (allUnits bus (allWords cs))
+        (awaiting windows dialect on (begunBy cs begun) (talliesOf dialect on cs tally) (memoriesOf windows cs m)) (heardAll bus cs)
+    unfolding allWords begunBy talliesOf memoriesOf heardAll AllSendable AllGranted AllFit
+    several-go [] begun tally m lent s g f = nothing-goes bus _
+    several-go (c ∷ cs) begun tally m lent s g f =
+        words-go (wordsOf c) (allWords cs) (piece-goes bus windows dialect on begun tally m lent c (s .0) (g .0 .granted) (f .0))
+        (several-go cs true (tallyOf dialect on c tally) (memoryOf windows c m) (piece-does m lent c (s .0) (g .0) .same-length ∙ lent) (s .1) (g .1) (f .1))
 
     -- none of which is refused
-    pub several-accepted : (cs : List Piece) (begun : Bool) (register : ℕ) (m : List ℕ) → length m ≡ sumOf windows → AllSendable cs
-        → NoneRefused bus (awaiting windows on begun register m) (allUnits bus (allWords cs)) → AllGranted windows cs
-    unfolding allWords AllSendable AllGranted
-    several-accepted [] begun register m lent s n = tt
-    several-accepted (c ∷ cs) begun register m lent s n =
-        let parts = none-refused-words bus (awaiting windows on begun register m) (wordsOf c) (allWords cs) n in
-        let g = piece-accepted bus windows on begun register m lent c (s .0) (parts .0) in
-        let goes = piece-goes bus windows on begun register m lent c (s .0) (g .granted) in (
-          g,
-          several-accepted cs true (registerOf on c register) (memoryOf windows c m) (piece-does m lent c (s .0) g .same-length ∙ lent) (s .1)
-              (subst (λ (x : State). NoneRefused bus x (allUnits bus (allWords cs))) (goes .leads) (parts .1)),
-        )
+    pub several-accepted : (cs : List Piece) (begun : Bool) (tally : Tally) (m : List ℕ) → length m ≡ sumOf windows → AllSendable cs
+        → NoneRefused bus (awaiting windows dialect on begun tally m) (allUnits bus (allWords cs)) → AllGranted windows cs × AllFit dialect (tally .totals) cs
+    unfolding allWords AllSendable AllGranted AllFit
+    several-accepted [] begun tally m lent s n = (tt, tt)
+    several-accepted (c ∷ cs) begun tally m lent s n =
+        let parts = none-refused-words bus (awaiting windows dialect on begun tally m) (wordsOf c) (allWords cs) n in
+        let g = piece-accepted bus windows dialect on begun tally m lent c (s .0) (parts .0) in
+        let goes = piece-goes bus windows dialect on begun tally m lent c (s .0) (g .at .granted) (g .fits) in
+        let rest =
+        several-accepted cs true (tallyOf dialect on c tally) (memoryOf windows c m) (piece-does m lent c (s .0) (g .at) .same-length ∙ lent) (s .1)
+        (subst (λ (x : State). NoneRefused bus x (allUnits bus (allWords cs))) (goes .leads) (parts .1)) in
+        ((g .at, rest .0), (g .fits, rest .1))

@@ -1,5 +1,5 @@
 -- A whole command on either line: from any running session that awaits an opcode, the words of a granted load, fill or setting lead to the same session, begun,
--- with the command's register and memory; what is heard of them does not depend on register, memory or whether it had begun. Word by word, each by the lift;
+-- with the command's register, totals and memory; what is heard of them does not depend on these or on whether it had begun. Word by word, each by the lift;
 -- what the words come to is the law over the opcode table, whatever the command.
 use Prim.Native.Nat.{ℕ, suc, _+_, _-_, _/_, _%_, _^_, _<_}
 use mathlib.Core.Bool.{Bool, true, false, true≢false}
@@ -19,18 +19,24 @@ use Rattle.windows.specs.declared.Window.{Window}
 use Rattle.script.specs.Opcodes.{rows, rowServes, foundIn, lookedUp}
 use Rattle.script.specs.declared.Command.{Command}
 use Rattle.script.specs.declared.Command.the-variants as command
+use Rattle.script.specs.declared.Dialect.{Dialect}
+use Rattle.script.specs.declared.Dialect.the-variants.{Am17xx, Dm648}
 use Rattle.script.specs.declared.Event.{Event}
 use Rattle.script.specs.declared.Event.the-variants.{Nothing, Wait}
 use Rattle.script.specs.declared.Found.the-variants.{Known}
 use Rattle.script.specs.declared.Mode.the-variants.{Sent}
 use Rattle.script.specs.declared.Refusal.the-variants as refusal
-use Rattle.commands.specs.Commands.{loadJudged, loaded, loadFed, fillDone, fillMemory, settingDone, settingMemory, memoryIf}
+use Rattle.totals.specs.Attempts.{Write, section, setting as noSection, wrote}
+use Rattle.totals.specs.Totals.{wouldPass, settled, turned}
+use Rattle.totals.specs.declared.Totals.{Totals}
+use Rattle.commands.specs.Commands.{loadJudged, fillJudged, settingJudged, loaded, loadFed, fillDone, fillMemory, settingDone, settingMemory, memoryIf}
+use Rattle.commands.proofs.Judging.{unbarred}
 use Rattle.commands.specs.declared.Judged.{Judged}
 use Rattle.commands.specs.declared.Judged.the-variants.{Granted}
 use Rattle.sent.specs.Bus.{unitsInWord, startUnit, unitsOf, allUnits, firstUnit}
 use Rattle.sent.specs.Feeding.{State, Heard, NoneRefused}
 use Rattle.sent.specs.Lift.{atWord, silent, Ready}
-use Rattle.sent.specs.Machine.{Outcome, quiet, _leaving_, noneKept, keeping, dataBytes, awaited, loadBegun, after, performed, begun, acknowledging, opening}
+use Rattle.sent.specs.Machine.{Outcome, tallied, quiet, _leaving_, noneKept, keeping, dataBytes, awaited, counting, loadBegun, after, performed, begun, acknowledging, opening}
 use Rattle.sent.specs.Replies.{silence, oneWord, wordThen, acknowledged}
 use Rattle.sent.specs.Words.{afterWords, asking, doneAtLast}
 use Rattle.sent.specs.declared.Bus.{Bus}
@@ -40,20 +46,21 @@ use Rattle.sent.specs.declared.Kept.{Kept}
 use Rattle.sent.specs.declared.Phase.{Phase}
 use Rattle.sent.specs.declared.Phase.the-variants as phase
 use Rattle.sent.specs.declared.Reply.{Reply}
+use Rattle.sent.specs.declared.Tally.{Tally}
 use Rattle.sent.proofs.ByTheTable.{by-the-table, word-kept, word-last, opcode-asks}
 use Rattle.sent.proofs.Feeding.{none-refused-append, Goes, nothing-goes, _then_, reaching, words-go}
 use Rattle.sent.proofs.Laws.{data-length, data-step, load-in-pieces}
 use Rattle.sent.proofs.Lift.{accepted-goes, word-accepted}
-use Rattle.retries.specs.Pieces.{Piece, load, fill, setting, wordsOf, bytesLoaded, AreWords, Sendable, judgedOf, loadOpcode, fillOpcode, settingOpcode, requestOpcode, startOverOpcode}
+use Rattle.retries.specs.Pieces.{Piece, load, fill, setting, wordsOf, bytesLoaded, AreWords, Sendable, judgedOf, loadOpcode, fillOpcode, settingOpcode, enableOpcode, requestOpcode, startOverOpcode}
 
 -- a running session's core
-abbrev pub running : List Window → Bool → Bool → ℕ → Phase → Core
-running windows on begun register next =
-    record { windows = windows; ended = false; on = on; begun = begun; tally = record { register = register }; stage = record { phase = next } }
+abbrev pub running : List Window → Dialect → Bool → Bool → Tally → Phase → Core
+running windows dialect on begun tally next =
+    record { windows = windows; dialect = dialect; ended = false; on = on; begun = begun; tally = tally; stage = record { phase = next } }
 
 -- the state that awaits an opcode
-abbrev pub awaiting : List Window → Bool → Bool → ℕ → List ℕ → State
-awaiting windows on begun register m = atWord (running windows on begun register phase.Opcode) m
+abbrev pub awaiting : List Window → Dialect → Bool → Bool → Tally → List ℕ → State
+awaiting windows dialect on begun tally m = atWord (running windows dialect on begun tally phase.Opcode) m
 
 -- an accepted word's outcome
 abbrev pub accepted : Reply → Event → Core → List ℕ → Outcome
@@ -87,11 +94,26 @@ registerOf on (load address size contents) register = pick on (loadFed register 
 registerOf on (fill address size kind pattern) register = pick on (checksum.fedWords register (address ∷ size ∷ kind ∷ pattern ∷ [])) register
 registerOf on (setting word address value delay) register = register
 
+-- to the totals a load or a fill is a section, and a setting is none
+abbrev pub writeOf : Piece → Write
+writeOf (load address size contents) = section size
+writeOf (fill address size kind pattern) = section size
+writeOf (setting word address value delay) = noSection
+
+-- would a section take a total past the largest?
+abbrev pub passes : Dialect → Totals → Write → Bool
+passes dialect t (section size) = wouldPass dialect (settled t) size
+passes dialect t noSection = false
+
+-- register and totals after a command
+abbrev pub tallyOf : Dialect → Bool → Piece → Tally → Tally
+tallyOf dialect on c tally = tallied (registerOf on c (tally .register)) (wrote dialect (tally .totals) (writeOf c))
+
 -- the memory after it
 abbrev pub memoryOf : List Window → Piece → List ℕ → List ℕ
 memoryOf windows (load address size contents) m = memoryIf (loadJudged windows address size) (λ place. loaded m place (bytesLoaded size contents)) m
-memoryOf windows (fill address size kind pattern) m = fillMemory windows m address size kind pattern
-memoryOf windows (setting word address value delay) m = settingMemory windows m word address value
+memoryOf windows (fill address size kind pattern) m = fillMemory (fillJudged windows address size kind) m size kind pattern
+memoryOf windows (setting word address value delay) m = settingMemory (settingJudged windows word address value) m word value
 
 -- an opcode that no line takes for its start unit
 pub record Apart (opcode : ℕ) : Type 0 where
@@ -110,6 +132,40 @@ fill-apart = record { small = lit< tt; no-byte = refl; no-half = refl }
 pub setting-apart : Apart settingOpcode
 unfolding byte
 setting-apart = record { small = lit< tt; no-byte = refl; no-half = refl }
+
+-- the rows of what is sent here are the same in either dialect
+abbrev Row : ℕ → Command → ℕ → Type 0
+Row opcode c words = (dialect : Dialect) → lookedUp opcode Sent dialect ≡ Known c words
+
+pub load-row : Row loadOpcode command.Load 2
+unfolding lookedUp foundIn rows rowServes pick
+load-row Am17xx = refl
+load-row Dm648 = refl
+
+pub fill-row : Row fillOpcode command.Fill 4
+unfolding lookedUp foundIn rows rowServes pick
+fill-row Am17xx = refl
+fill-row Dm648 = refl
+
+pub setting-row : Row settingOpcode command.BootTable 4
+unfolding lookedUp foundIn rows rowServes pick
+setting-row Am17xx = refl
+setting-row Dm648 = refl
+
+pub enable-row : Row enableOpcode command.Enable 0
+unfolding lookedUp foundIn rows rowServes pick
+enable-row Am17xx = refl
+enable-row Dm648 = refl
+
+pub request-row : Row requestOpcode command.Request 0
+unfolding lookedUp foundIn rows rowServes pick
+request-row Am17xx = refl
+request-row Dm648 = refl
+
+pub start-over-row : Row startOverOpcode command.StartOver 0
+unfolding lookedUp foundIn rows rowServes pick
+start-over-row Am17xx = refl
+start-over-row Dm648 = refl
 
 no-start : (bus : Bus) {opcode : ℕ} → Apart opcode → firstUnit bus opcode ≢ startUnit bus
 no-start Bytes apart = eqb-false _ _ (apart .no-byte)
@@ -143,11 +199,11 @@ module _ (bus : Bus) where
       then data-go ws _ _ (p + length (dataBytes w n)) (n - 4) runs since (length-loaded m p (dataBytes w n) ∙ lent) (small .1)
       (ap (λ (e : ℕ). awaited e (n - 4)) end) (omega arith))
 
-module _ (bus : Bus) (windows : List Window) (on : Bool) where
-  module _ (c : Command) (register : ℕ) (m : List ℕ) (lent : length m ≡ sumOf windows) where
+module _ (bus : Bus) (windows : List Window) (dialect : Dialect) (on : Bool) where
+  module _ (c : Command) (tally : Tally) (m : List ℕ) (lent : length m ≡ sumOf windows) where
     -- inside a command
     abbrev core : Core
-    core = running windows on true register phase.Opcode
+    core = running windows dialect on true tally phase.Opcode
 
     -- the argument words that are left
     arguments-go : (kept : Kept) (word : ℕ) (rest : List ℕ) → AreWords (word ∷ rest) → {reply : Reply} {event : Event} {k : Core} {left : List ℕ}
@@ -173,88 +229,103 @@ module _ (bus : Bus) (windows : List Window) (on : Bool) where
         arguments-accepted (keeping kept word) next rest more (small .1)
         (subst (λ (x : State). NoneRefused bus x (allUnits bus (next ∷ (rest ++ more)))) (first .leads) (none-refused-append bus _ (unitsOf bus word) _ n .1))
 
-  module _ (begun : Bool) (register : ℕ) (m : List ℕ) (lent : length m ≡ sumOf windows) where
+  module _ (begun : Bool) (tally : Tally) (m : List ℕ) (lent : length m ≡ sumOf windows) where
+    -- once an opcode is taken
+    abbrev pub turnedBy : Command → Tally
+    turnedBy c = tallied (tally .register) (turned c (tally .totals))
+
+    abbrev pub taken : Command → Core
+    taken c = running windows dialect on true (turnedBy c) phase.Opcode
+
     -- an opcode, begun or not
-    opcode-ready : (opcode : ℕ) → Apart opcode → Ready bus (running windows on begun register phase.Opcode) m opcode
+    opcode-ready : (opcode : ℕ) → Apart opcode → Ready bus (running windows dialect on begun tally phase.Opcode) m opcode
     opcode-ready opcode apart = record { running = refl; lent = lent; small = apart .small; plain = λ e. no-start bus apart }
 
     -- one that has no words
-    pub opcode-goes : (opcode : ℕ) (c : Command) → Apart opcode → lookedUp opcode Sent ≡ Known c 0 → {reply : Reply} {event : Event} {k : Core} {left : List ℕ}
-        → opening opcode (performed c (running windows on true register phase.Opcode) m noneKept 0) ≡ accepted reply event k left
-        → Goes bus (awaiting windows on begun register m) (unitsOf bus opcode) (atWord k left) (heardSaid bus reply event)
+    pub opcode-goes : (opcode : ℕ) (c : Command) → Apart opcode → lookedUp opcode Sent dialect ≡ Known c 0 → {reply : Reply} {event : Event} {k : Core} {left : List ℕ}
+        → opening opcode (performed c (taken c) m noneKept 0) ≡ accepted reply event k left
+        → Goes bus (awaiting windows dialect on begun tally m) (unitsOf bus opcode) (atWord k left) (heardSaid bus reply event)
     unfolding afterWords
     opcode-goes opcode c apart known e =
         accepted-goes bus _ m opcode (opcode-ready opcode apart) (by-the-table .done _ m opcode c 0 [] refl known refl ∙ e) refl
 
     -- one that has, up to the word that decides
-    module _ (opcode : ℕ) (c : Command) (word : ℕ) (rest : List ℕ) (apart : Apart opcode) (known : lookedUp opcode Sent ≡ Known c (suc (length rest)))
+    module _ (opcode : ℕ) (c : Command) (word : ℕ) (rest : List ℕ) (apart : Apart opcode) (known : lookedUp opcode Sent dialect ≡ Known c (suc (length rest)))
         (small : AreWords (word ∷ rest)) where
-      asked-goes : Goes bus (awaiting windows on begun register m) (unitsOf bus opcode)
-          (atWord (asking (running windows on true register phase.Opcode) c (suc (length rest)) noneKept) m)
+      asked-goes : Goes bus (awaiting windows dialect on begun tally m) (unitsOf bus opcode)
+          (atWord (asking (taken c) c (suc (length rest)) noneKept) m)
           (heardSaid bus (oneWord (acknowledged opcode)) Nothing)
       asked-goes = accepted-goes bus _ m opcode (opcode-ready opcode apart) (opcode-asks _ m opcode (length rest) refl known) refl
 
       command-goes : {reply : Reply} {event : Event} {k : Core} {left : List ℕ}
-          → doneAtLast c (running windows on true register phase.Opcode) m noneKept word rest ≡ accepted reply event k left
-          → Goes bus (awaiting windows on begun register m) (allUnits bus (opcode ∷ word ∷ rest)) (atWord k left)
+          → doneAtLast c (taken c) m noneKept word rest ≡ accepted reply event k left
+          → Goes bus (awaiting windows dialect on begun tally m) (allUnits bus (opcode ∷ word ∷ rest)) (atWord k left)
           (heardSaid bus (oneWord (acknowledged opcode)) Nothing ++ heardThen bus rest reply event)
-      command-goes e = asked-goes then arguments-go c register m lent noneKept word rest small e
+      command-goes e = asked-goes then arguments-go c (turnedBy c) m lent noneKept word rest small e
 
-      pub command-accepted : (more : List ℕ) → NoneRefused bus (awaiting windows on begun register m) (allUnits bus (opcode ∷ word ∷ (rest ++ more)))
-          → doneAtLast c (running windows on true register phase.Opcode) m noneKept word rest .answer .refusal ≡ refusal.None
+      pub command-accepted : (more : List ℕ) → NoneRefused bus (awaiting windows dialect on begun tally m) (allUnits bus (opcode ∷ word ∷ (rest ++ more)))
+          → doneAtLast c (taken c) m noneKept word rest .answer .refusal ≡ refusal.None
       command-accepted more n =
-          arguments-accepted c register m lent noneKept word rest more small
+          arguments-accepted c (turnedBy c) m lent noneKept word rest more small
           (subst (λ (x : State). NoneRefused bus x (allUnits bus (word ∷ (rest ++ more)))) (asked-goes .leads)
           (none-refused-append bus _ (unitsOf bus opcode) _ n .1))
 
     -- Request and Start-Over
-    pub request-goes : Goes bus (awaiting windows on begun register m) (unitsOf bus requestOpcode) (awaiting windows on true 0 m)
-        (heardSaid bus (wordThen (acknowledged requestOpcode) (oneWord register)) Nothing)
-    unfolding lookedUp foundIn rows rowServes pick acknowledging byte
-    request-goes = opcode-goes requestOpcode command.Request (record { small = lit< tt; no-byte = refl; no-half = refl }) refl refl
+    pub request-goes : Goes bus (awaiting windows dialect on begun tally m) (unitsOf bus requestOpcode)
+        (awaiting windows dialect on true (tallied 0 (turned command.Request (tally .totals))) m)
+        (heardSaid bus (wordThen (acknowledged requestOpcode) (oneWord (tally .register))) Nothing)
+    unfolding acknowledging byte pick
+    request-goes =
+        opcode-goes requestOpcode command.Request (record { small = lit< tt; no-byte = refl; no-half = refl }) (request-row dialect) refl
 
-    pub start-over-goes : Goes bus (awaiting windows on begun register m) (unitsOf bus startOverOpcode) (awaiting windows on true 0 m)
+    pub start-over-goes : Goes bus (awaiting windows dialect on begun tally m) (unitsOf bus startOverOpcode)
+        (awaiting windows dialect on true (tallied 0 (turned command.StartOver (tally .totals))) m)
         (heardSaid bus (wordThen (acknowledged startOverOpcode) silence) Nothing)
-    unfolding lookedUp foundIn rows rowServes pick acknowledging byte
-    start-over-goes = opcode-goes startOverOpcode command.StartOver (record { small = lit< tt; no-byte = refl; no-half = refl }) refl refl
+    unfolding pick acknowledging byte
+    start-over-goes =
+        opcode-goes startOverOpcode command.StartOver (record { small = lit< tt; no-byte = refl; no-half = refl }) (start-over-row dialect) refl
 
     -- a load that is granted at its size word, and its data
-    module _ (address size place : ℕ) (granted : loadJudged windows address size ≡ Granted place) where
+    module _ (address size place : ℕ) (granted : counting (taken command.Load) size (loadJudged windows address size) ≡ Granted place) where
       abbrev loading : Core
-      loading = running windows on true (pick on (checksum.fedWords register (address ∷ size ∷ [])) register) (awaited (place + size) size)
+      loading =
+          running windows dialect on true
+          (tallied (pick on (checksum.fedWords (tally .register) (address ∷ size ∷ [])) (tally .register)) (wrote dialect (tally .totals) (section size)))
+          (awaited (place + size) size)
 
       load-begins : address < 2 ^ 32 → size < 2 ^ 32
-          → Goes bus (awaiting windows on begun register m) (allUnits bus (loadOpcode ∷ address ∷ size ∷ [])) (atWord loading m)
+          → Goes bus (awaiting windows dialect on begun tally m) (allUnits bus (loadOpcode ∷ address ∷ size ∷ [])) (atWord loading m)
           (heardCommand bus loadOpcode (size ∷ []) Nothing)
-      unfolding lookedUp foundIn rows rowServes pick doneAtLast
+      unfolding doneAtLast
       load-begins address< size< =
-          command-goes loadOpcode command.Load address (size ∷ []) load-apart refl
+          command-goes loadOpcode command.Load address (size ∷ []) load-apart (load-row dialect)
           (address<, (size<, tt))
-          (ap (λ (j : Judged). loadBegun (asking (running windows on true register phase.Opcode) command.Load 1 (keeping noneKept address)) address size j leaving m) granted)
+          (ap (λ (j : Judged). loadBegun (asking (taken command.Load) command.Load 1 (keeping noneKept address)) address size j leaving m) granted)
 
       load-lands : (contents : List ℕ) → length contents ≡ (size + 3) / 4
           → atWord (afterWords (quiet loading leaving m) contents .answer .core) (afterWords (quiet loading leaving m) contents .memory)
-          ≡ awaiting windows on true (pick on (loadFed register address (bytesLoaded size contents)) register) (loaded m place (bytesLoaded size contents))
+          ≡ awaiting windows dialect on true (tallyOf dialect on (load address size contents) tally) (loaded m place (bytesLoaded size contents))
       load-lands contents whole =
-          let k = asking (running windows on true register phase.Opcode) command.Load 1 (keeping noneKept address) in
+          let k = asking (taken command.Load) command.Load 1 (keeping noneKept address) in
           ap (λ (o : Outcome). atWord (o .answer .core) (o .memory))
           (sym (ap (λ (j : Judged). afterWords (loadBegun k address size j leaving m) contents) granted)
           ∙ load-in-pieces k m (keeping noneKept address) size place contents granted whole)
 
-    -- a granted command
-    pub piece-goes : (c : Piece) → Sendable c → {place : ℕ} → judgedOf windows c ≡ Granted place
-        → Goes bus (awaiting windows on begun register m) (allUnits bus (wordsOf c)) (awaiting windows on true (registerOf on c register) (memoryOf windows c m))
-        (heardOf bus c)
-    unfolding lookedUp foundIn rows rowServes pick doneAtLast after fillDone fillMemory settingDone settingMemory
-    piece-goes (load address size contents) sendable {place} granted =
+    -- a granted command that takes no total past the largest
+    pub piece-goes : (c : Piece) → Sendable c → {place : ℕ} → judgedOf windows c ≡ Granted place → passes dialect (tally .totals) (writeOf c) ≡ false
+        → Goes bus (awaiting windows dialect on begun tally m) (allUnits bus (wordsOf c))
+        (awaiting windows dialect on true (tallyOf dialect on c tally) (memoryOf windows c m)) (heardOf bus c)
+    unfolding pick doneAtLast after fillDone fillMemory settingDone settingMemory
+    piece-goes (load address size contents) sendable {place} granted fits =
+        let judged : counting (taken command.Load) size (loadJudged windows address size) ≡ Granted place = unbarred _ _ _ fits ∙ granted in
         rw granted
-        (words-go (loadOpcode ∷ address ∷ size ∷ []) contents (load-begins address size place granted (sendable .0 .1 .0) (sendable .0 .1 .1 .0))
+        (words-go (loadOpcode ∷ address ∷ size ∷ []) contents (load-begins address size place judged (sendable .0 .1 .0) (sendable .0 .1 .1 .0))
         (reaching
-        (data-go bus contents (loading address size place granted) m place size refl refl lent (sendable .0 .1 .1 .1) refl (sendable .1))
-        (load-lands address size place granted contents (sendable .1))))
-    piece-goes (fill address size kind pattern) sendable granted =
-        command-goes fillOpcode command.Fill address (size ∷ kind ∷ pattern ∷ []) fill-apart refl
-        (sendable .0 .1) (rw granted refl)
-    piece-goes (setting word address value delay) sendable granted =
-        command-goes settingOpcode command.BootTable word (address ∷ value ∷ delay ∷ []) setting-apart refl
+        (data-go bus contents (loading address size place judged) m place size refl refl lent (sendable .0 .1 .1 .1) refl (sendable .1))
+        (load-lands address size place judged contents (sendable .1))))
+    piece-goes (fill address size kind pattern) sendable granted fits =
+        command-goes fillOpcode command.Fill address (size ∷ kind ∷ pattern ∷ []) fill-apart (fill-row dialect)
+        (sendable .0 .1) (rw (granted, fits) refl)
+    piece-goes (setting word address value delay) sendable granted fits =
+        command-goes settingOpcode command.BootTable word (address ∷ value ∷ delay ∷ []) setting-apart (setting-row dialect)
         (sendable .0 .1) (rw granted refl)

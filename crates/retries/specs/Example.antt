@@ -7,14 +7,19 @@ use mathlib.Core.Path.{_≡_}
 use lib.ListN.{replicate}
 use Rattle.windows.specs.Map.{zeroWindow}
 use Rattle.windows.specs.declared.Window.{Window}
+use Rattle.script.specs.declared.Dialect.{Dialect}
+use Rattle.script.specs.declared.Dialect.the-variants.{Am17xx, Dm648}
 use Rattle.script.specs.declared.Event.the-variants.{Nothing}
 use Rattle.script.specs.declared.Refusal.the-variants.{Memory}
+use Rattle.totals.specs.Attempts.{Level}
+use Rattle.totals.specs.Totals.{standing, nothing as zero}
+use Rattle.totals.specs.declared.Standing.{Standing}
 use Rattle.sent.specs.Bus.{startUnit, unitsOf}
-use Rattle.sent.specs.Feeding.{State, heard}
+use Rattle.sent.specs.Feeding.{State, register, totals, heard}
 use Rattle.sent.specs.Replies.{silence}
 use Rattle.sent.specs.declared.Bus.{Bus}
 use Rattle.sent.specs.declared.Bus.the-variants.{Bytes}
-use Rattle.retries.specs.Pieces.{Piece, load, setting, enableOpcode, wordsOf, allWords, Covers}
+use Rattle.retries.specs.Pieces.{Piece, load, setting, enableOpcode, requestOpcode, wordsOf, allWords, Covers}
 use Rattle.retries.specs.Retries.{after, Awaits, Begins, sinceOpening, Reached, AtStart, JustAfter, Attempt, attemptWords, NoTrace, Accepted, Retried}
 
 -- a window of eight bytes, and what they hold
@@ -24,9 +29,13 @@ windows = record { first = 0x80000000; length = 8; rights = 7 } ∷ replicate 7 
 abbrev pub before : List ℕ
 before = 0x7F ∷ 0 ∷ 0 ∷ 0 ∷ 0xAA ∷ 0xAA ∷ 0xAA ∷ 0xAA ∷ []
 
--- a session on them, opened, started, the checksum on
-unfoldable pub start : Bus → State
-start bus = sinceOpening bus 1 windows before (startUnit bus ∷ unitsOf bus enableOpcode)
+-- a session on them, opened and started
+unfoldable pub started : Bus → Dialect → State
+started bus dialect = sinceOpening bus dialect 1 windows before (startUnit bus ∷ [])
+
+-- with the checksum on
+unfoldable pub start : Bus → Dialect → State
+start bus dialect = sinceOpening bus dialect 1 windows before (startUnit bus ∷ unitsOf bus enableOpcode)
 
 -- a field of the first word, bits 8 to 11 of it, and three bytes from the second word on; the top byte of their word is a pad byte
 abbrev pub sent : ℕ → ℕ → ℕ → ℕ → List Piece
@@ -39,54 +48,80 @@ abandoned = record { pieces = sent 0x00060403 2 0xF 0xEE030201; asked = true }
 abbrev pub repeated : List Piece
 repeated = sent 0x00060403 1 2 0xEE332211
 
--- the premises are met, from the opening on; the attempt changes memory; after the repeat nothing is left of it
-pub record Worked (bus : Bus) : Type 0 where
-  pub just-after : JustAfter bus (start bus)
-  pub retried : Retried bus (start bus) (attemptWords abandoned) (abandoned .pieces) repeated
-  pub no-trace : NoTrace bus (start bus) (attemptWords abandoned) (allWords repeated)
-  pub after-attempt : after bus (start bus) (attemptWords abandoned) .memory ≡ 0x2F ∷ 0x0F ∷ 0 ∷ 0 ∷ 1 ∷ 2 ∷ 3 ∷ 0xAA ∷ []
-  pub after-repeat : after bus (start bus) (attemptWords abandoned ++ allWords repeated) .memory
+-- the totals after a load of three bytes
+abbrev pub oneLoad : Dialect → Standing
+oneLoad Am17xx = zero
+oneLoad Dm648 = standing 1 3
+
+-- the premises are met, from the opening on; the attempt changes memory; after the repeat nothing is left of it, and one load is counted
+pub record Worked (bus : Bus) (dialect : Dialect) : Type 0 where
+  pub just-after : JustAfter bus (start bus dialect)
+  pub retried : Retried bus (start bus dialect) (attemptWords abandoned) (abandoned .pieces) repeated
+  pub no-trace : NoTrace bus (start bus dialect) (attemptWords abandoned) (allWords repeated)
+  pub after-attempt : after bus (start bus dialect) (attemptWords abandoned) .memory ≡ 0x2F ∷ 0x0F ∷ 0 ∷ 0 ∷ 1 ∷ 2 ∷ 3 ∷ 0xAA ∷ []
+  pub after-repeat : after bus (start bus dialect) (attemptWords abandoned ++ allWords repeated) .memory
       ≡ 0x1F ∷ 0x02 ∷ 0 ∷ 0 ∷ 0x11 ∷ 0x22 ∷ 0x33 ∷ 0xAA ∷ []
-  pub never-tried : after bus (start bus) (allWords repeated) .memory ≡ 0x1F ∷ 0x02 ∷ 0 ∷ 0 ∷ 0x11 ∷ 0x22 ∷ 0x33 ∷ 0xAA ∷ []
+  pub never-tried : after bus (start bus dialect) (allWords repeated) .memory ≡ 0x1F ∷ 0x02 ∷ 0 ∷ 0 ∷ 0x11 ∷ 0x22 ∷ 0x33 ∷ 0xAA ∷ []
+  pub counted : totals (after bus (start bus dialect) (attemptWords abandoned ++ allWords repeated)) .now ≡ oneLoad dialect
 
 -- what follows misses bit 6 of the attempt's first field, and all else is met: the bit stays
 abbrev pub missing : List Piece
 missing = sent 0x00050403 1 2 0xEE332211
 
 pub record OneBitMissed : Type 0 where
-  pub begins : Begins (start Bytes)
-  pub accepted : Accepted Bytes (start Bytes) (attemptWords abandoned) (abandoned .pieces) missing
-  pub trace : NoTrace Bytes (start Bytes) (attemptWords abandoned) (allWords missing) → ⊥
+  pub begins : Begins (start Bytes Am17xx)
+  pub accepted : Accepted Bytes (start Bytes Am17xx) (attemptWords abandoned) (abandoned .pieces) missing
+  pub trace : NoTrace Bytes (start Bytes Am17xx) (attemptWords abandoned) (allWords missing) → ⊥
 
--- an attempt begins after a load, so that the register is not 0, and all else is met: Start-Over takes the load back from the checksum
+-- an attempt begins after a load, so that the register is not 0, and all else is met (in AM17xx, where the totals are level): Start-Over takes the load back from the checksum
 unfoldable pub middle : State
-middle = after Bytes (start Bytes) (wordsOf (load 0x80000004 3 (0xEE030201 ∷ [])))
+middle = after Bytes (start Bytes Am17xx) (wordsOf (load 0x80000004 3 (0xEE030201 ∷ [])))
 
 abbrev pub nothing : Attempt
 nothing = record { pieces = []; asked = false }
 
 pub record InTheMiddle : Type 0 where
   pub awaits : Awaits middle
+  pub level : Level (totals middle)
   pub accepted : Accepted Bytes middle (attemptWords nothing) [] repeated
   pub covered : Covers windows [] repeated
   pub trace : NoTrace Bytes middle (attemptWords nothing) (allWords repeated) → ⊥
 
--- nothing follows an attempt that begins at the start unit: that an opcode has been acknowledged is a trace
-unfoldable pub started : Bus → State
-started bus = sinceOpening bus 1 windows before (startUnit bus ∷ [])
+-- a Start-Over alone directly after a Request, and all else is met: it takes the load before that Request back from the totals
+unfoldable pub requested : State
+requested = after Bytes (start Bytes Dm648) (wordsOf (load 0x80000004 3 (0xEE030201 ∷ [])) ++ (requestOpcode ∷ []))
 
+pub record StartOverAlone : Type 0 where
+  pub begins : Begins requested
+  pub accepted : Accepted Bytes requested (attemptWords nothing) [] repeated
+  pub covered : Covers windows [] repeated
+  pub trace : NoTrace Bytes requested (attemptWords nothing) (allWords repeated) → ⊥
+
+-- an attempt begins after a load with the checksum off, so that the totals are not the mark, and all else is met: Start-Over takes the load back from them
+unfoldable pub unmarked : State
+unmarked = after Bytes (started Bytes Dm648) (wordsOf (load 0x80000004 3 (0xEE030201 ∷ [])))
+
+pub record NotLevel : Type 0 where
+  pub awaits : Awaits unmarked
+  pub rewound : register unmarked ≡ 0
+  pub settled : totals unmarked .asked ≡ false
+  pub accepted : Accepted Bytes unmarked (attemptWords nothing) [] repeated
+  pub covered : Covers windows [] repeated
+  pub trace : NoTrace Bytes unmarked (attemptWords nothing) (allWords repeated) → ⊥
+
+-- nothing follows an attempt that begins at the start unit: that an opcode has been acknowledged is a trace
 pub record NothingFollows : Type 0 where
-  pub just-after : JustAfter Bytes (started Bytes)
-  pub begins : Begins (started Bytes)
-  pub accepted : Accepted Bytes (started Bytes) (attemptWords nothing) [] []
-  pub trace : NoTrace Bytes (started Bytes) (attemptWords nothing) [] → ⊥
+  pub just-after : JustAfter Bytes (started Bytes Am17xx)
+  pub begins : Begins (started Bytes Am17xx)
+  pub accepted : Accepted Bytes (started Bytes Am17xx) (attemptWords nothing) [] []
+  pub trace : NoTrace Bytes (started Bytes Am17xx) (attemptWords nothing) [] → ⊥
 
 -- a byte of memory is missing, and all else is met: the start unit is refused with 2, not answered
 abbrev pub shorter : List ℕ
 shorter = 0x7F ∷ 0 ∷ 0 ∷ 0 ∷ 0xAA ∷ 0xAA ∷ 0xAA ∷ []
 
 unfoldable pub short : State
-short = sinceOpening Bytes 1 windows shorter []
+short = sinceOpening Bytes Am17xx 1 windows shorter []
 
 pub record MemoryTooShort : Type 0 where
   pub reached : Reached Bytes short

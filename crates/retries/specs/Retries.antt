@@ -3,13 +3,18 @@
 use Prim.Native.Nat.{ℕ, _-_}
 use mathlib.Core.Bool.{Bool, true, false}
 use mathlib.Core.List.{List, [], _∷_, _++_, map}
+use mathlib.Core.Logic.{_≢_}
 use mathlib.Core.Path.{_≡_}
-use lib.ListN.{length, replicate}
+use lib.ListN.{length, getD, replicate}
 use Rattle.words.specs.Choice.{pick}
 use Rattle.windows.specs.Window.{sumOf}
 use Rattle.windows.specs.declared.Window.{Window}
+use Rattle.script.specs.declared.Dialect.{Dialect}
+use Rattle.totals.specs.Attempts.{Level}
+use Rattle.totals.specs.Totals.{atOpening}
 use Rattle.sent.specs.Bus.{unitsInWord, startUnit, unitsOf, allUnits}
-use Rattle.sent.specs.Feeding.{State, Heard, AreBytes, register, next, heard, fed, answers, NoneRefused}
+use Rattle.sent.specs.Feeding.{State, Heard, AreBytes, register, totals, next, heard, fed, answers, NoneRefused}
+use Rattle.sent.specs.Machine.{tallied}
 use Rattle.sent.specs.Opening.{openedBy}
 use Rattle.sent.specs.Replies.{startAnswer, silence, oneWord, wordThen, acknowledged}
 use Rattle.sent.specs.declared.Bus.{Bus}
@@ -29,27 +34,29 @@ pub record Awaits (x : State) : Type 0 where
   pub fresh : (x .session .line .have ≡ 0) × (x .session .line .word ≡ 0)
   pub opcode : x .session .core .stage .phase ≡ Opcode
 
--- where an attempt may begin: there, with nothing that Start-Over would take back
+-- where an attempt may begin: there, with nothing that Start-Over would take back once a Request that stands is settled
 pub record Begins (x : State) : Type 0 where
   pub awaits : Awaits x
   pub rewound : register x ≡ 0
+  pub level : Level (totals x)
 
 -- a session after its opening and some units
-abbrev pub sinceOpening : Bus → ℕ → List Window → List ℕ → List ℕ → State
-sinceOpening bus count windows memory units = fed bus (record { session = openedBy bus count windows .session; memory = memory }) units
+abbrev pub sinceOpening : Bus → Dialect → ℕ → List Window → List ℕ → List ℕ → State
+sinceOpening bus dialect count windows memory units = fed bus (record { session = openedBy bus dialect count windows .session; memory = memory }) units
 
 -- a session that an opening leads to, lent memory of bytes, whatever is sent
 pub record Reached (bus : Bus) (x : State) : Type 0 where
+  pub dialect : Dialect
   pub count : ℕ
   pub windows : List Window
   pub memory : List ℕ
   pub sent : List ℕ
   pub bytes : AreBytes memory
-  pub leads : sinceOpening bus count windows memory sent ≡ x
+  pub leads : sinceOpening bus dialect count windows memory sent ≡ x
 
 -- the windows that its opening kept
 abbrev pub opened : {bus : Bus} {x : State} → Reached bus x → List Window
-opened {bus} r = openedBy bus (r .count) (r .windows) .session .core .windows
+opened {bus} r = openedBy bus (r .dialect) (r .count) (r .windows) .session .core .windows
 
 -- the memory lent to it has the length of its map
 abbrev pub Whole : {bus : Bus} {x : State} → Reached bus x → Type 0
@@ -76,7 +83,7 @@ pub record Sound (windows : List Window) (size : ℕ) (x : State) : Type 0 where
   pub gathered : x .session .line .have ≡ 0 → x .session .line .word ≡ 0
   pub unstarted : x .session .line .started ≡ false → (x .session .line .have ≡ 0) × (x .session .core .begun ≡ false)
   pub started : x .session .line .started ≡ true → size ≡ sumOf windows
-  pub unbegun : x .session .core .begun ≡ false → (register x ≡ 0) × (x .session .core .stage .phase ≡ Opcode)
+  pub unbegun : x .session .core .begun ≡ false → (x .session .core .tally ≡ tallied 0 atOpening) × (x .session .core .stage .phase ≡ Opcode)
 
 -- just after the answered start unit, or after an Enable, a Request or a Start-Over that was taken as an opcode
 pub data JustAfter (bus : Bus) : State → Type 0 where
@@ -85,10 +92,19 @@ pub data JustAfter (bus : Bus) : State → Type 0 where
   after-request : {x : State} → Reached bus x → Idle x → JustAfter bus (fed bus x (unitsOf bus requestOpcode))
   after-start-over : {x : State} → Reached bus x → Idle x → JustAfter bus (fed bus x (unitsOf bus startOverOpcode))
 
+-- was it a Request?
+abbrev pub afterRequest : {bus : Bus} {x : State} → JustAfter bus x → Bool
+afterRequest (after-start u reached answered) = false
+afterRequest (after-enable reached idle) = false
+afterRequest (after-request reached idle) = true
+afterRequest (after-start-over reached idle) = false
+
 -- where attempts begin, of every session that units of a line lead to
 pub record Beginnings (bus : Bus) : Type 0 where
   -- just after each of the four
   pub begins : (x : State) → JustAfter bus x → Begins x
+  -- a Request stands unsettled just after it alone
+  pub unsettled : (x : State) (j : JustAfter bus x) → totals x .asked ≡ afterRequest j
   -- a session that is seen to await an opcode does so on its own memory, with nothing left of a word; for units keep it sound
   pub awaits : (x : State) → Reached bus x → Idle x → Awaits x
   pub sound : (x : State) (r : Reached bus x) → Sound (opened r) (length (r .memory)) x
@@ -124,7 +140,7 @@ Reports bus x number =
     map (λ (h : Heard). h .reply) (answers bus x (unitsOf bus requestOpcode))
     ≡ replicate (unitsInWord bus - 1) silence ++ (wordThen (acknowledged requestOpcode) (oneWord number) ∷ [])
 
--- some words leave no trace once others follow: memory, register and the whole session are those of the others alone, and so is every answer from
+-- some words leave no trace once others follow: memory, register, totals and the whole session are those of the others alone, and so is every answer from
 -- there on, also to any further units; a Request that comes next reports that register
 pub record NoTrace (bus : Bus) (x : State) (attempt following : List ℕ) : Type 0 where
   pub same-state : after bus x (attempt ++ following) ≡ after bus x following
@@ -138,9 +154,14 @@ pub record Accepted (bus : Bus) (x : State) (attempt : List ℕ) (attempted foll
   pub attempt-accepted : NoneRefused bus x (allUnits bus attempt)
   pub following-accepted : NoneRefused bus (after bus x attempt) (allUnits bus (allWords following))
 
--- the attempt begins where one may, and what follows writes every bit that it wrote
+-- directly after a Request a Start-Over alone is no attempt, in either dialect: it takes back what stands before that Request
+abbrev pub NotAlone : State → List ℕ → Type 0
+NotAlone x attempt = totals x .asked ≡ true → getD attempt 0 0 ≢ startOverOpcode
+
+-- the attempt begins where one may, and what follows writes every bit that it wrote; of several in a row only the first may not be a Start-Over alone
 pub record Retried (bus : Bus) (x : State) (attempt : List ℕ) (attempted following : List Piece) : Type 0 where
   pub begins : Begins x
+  pub not-alone : NotAlone x attempt
   pub accepted : Accepted bus x attempt attempted following
   pub covered : Covers (x .session .core .windows) attempted following
 
@@ -160,5 +181,5 @@ ManyRetriesLeaveNoTrace =
 abbrev pub RetriesSinceOpening : Type 0
 RetriesSinceOpening =
     (bus : Bus) (x : State) (a : Attempt) (c : Piece) (cs : List Piece)
-    → JustAfter bus x → Accepted bus x (attemptWords a) (a .pieces) (c ∷ cs) → Covers (x .session .core .windows) (a .pieces) (c ∷ cs)
-    → NoTrace bus x (attemptWords a) (allWords (c ∷ cs))
+    → JustAfter bus x → NotAlone x (attemptWords a) → Accepted bus x (attemptWords a) (a .pieces) (c ∷ cs)
+    → Covers (x .session .core .windows) (a .pieces) (c ∷ cs) → NoTrace bus x (attemptWords a) (allWords (c ∷ cs))

@@ -9,27 +9,28 @@ use Rattle.words.specs.Choice.{pick}
 use Rattle.words.proofs.Choice.{chosen, passed, by-test}
 use Rattle.script.specs.Opcodes.{rows, retired, rowServes, foundIn, lookedUp}
 use Rattle.script.specs.Retired.{ExactlyJump}
+use Rattle.script.specs.declared.Dialect.{Dialect}
 use Rattle.script.specs.declared.Found.the-variants.{Known, Retired}
 use Rattle.script.specs.declared.Mode.{Mode}
 use Rattle.script.specs.declared.Row.{Row}
 
-never-found : (table : List Row) (opcode : ℕ) (mode : Mode) → foundIn table opcode mode ≡ Retired → ⊥
+never-found : (table : List Row) (opcode : ℕ) (mode : Mode) (dialect : Dialect) → foundIn table opcode mode dialect ≡ Retired → ⊥
 unfolding foundIn
-never-found [] opcode mode found = let z : _≡_ {A = ℕ} 0 1 = cc in omega arith
-never-found (row ∷ rest) opcode mode found =
-    by-test (rowServes row opcode mode)
+never-found [] opcode mode dialect found = let z : _≡_ {A = ℕ} 0 1 = cc in omega arith
+never-found (row ∷ rest) opcode mode dialect found =
+    by-test (rowServes row opcode mode dialect)
     (λ serves.
     let here : Known (row .command) (row .words) ≡ Retired = sym (chosen _ _ _ serves) ∙ found in
     let z : _≡_ {A = ℕ} 0 1 = cc in
     omega arith)
-    (λ other. never-found rest opcode mode (sym (passed _ _ _ other) ∙ found))
+    (λ other. never-found rest opcode mode dialect (sym (passed _ _ _ other) ∙ found))
 
 pub exactly-jump : ExactlyJump
 unfolding lookedUp pick
 exactly-jump =
     record {
-      retired = λ mode. refl;
-      only = λ opcode mode found.
+      retired = λ mode dialect. refl;
+      only = λ opcode mode dialect found.
           by-test (eqb opcode retired) (λ same. eqb-true _ _ same)
-          (λ other. absurd (never-found rows opcode mode (sym (passed _ _ _ other) ∙ found)));
+          (λ other. absurd (never-found rows opcode mode dialect (sym (passed _ _ _ other) ∙ found)));
     }

@@ -13,40 +13,41 @@ use Rattle.words.specs.Choice.{pick}
 use Rattle.words.proofs.Choice.{chosen, passed, by-test, both}
 use Rattle.script.specs.Opcodes.{allowed, rowServes, foundIn}
 use Rattle.script.specs.declared.Command.{Command}
+use Rattle.script.specs.declared.Dialect.{Dialect}
 use Rattle.script.specs.declared.Mode.{Mode}
 use Rattle.script.specs.declared.Row.{Row}
 use Rattle.script.specs.declared.Found.the-variants.{Known}
 
-pub found-from : (rows : List Row) (opcode : ℕ) (mode : Mode) (i : ℕ) (other : Row) → i < length rows
-    → foundIn (drop i rows) opcode mode
-    ≡ pick (rowServes (getD rows i other) opcode mode) (Known (getD rows i other .command) (getD rows i other .words)) (foundIn (drop (i + 1) rows) opcode mode)
+pub found-from : (rows : List Row) (opcode : ℕ) (mode : Mode) (dialect : Dialect) (i : ℕ) (other : Row) → i < length rows
+    → foundIn (drop i rows) opcode mode dialect
+    ≡ pick (rowServes (getD rows i other) opcode mode dialect) (Known (getD rows i other .command) (getD rows i other .words)) (foundIn (drop (i + 1) rows) opcode mode dialect)
 unfolding foundIn
-found-from rows opcode mode i other h = rw (drop-cons rows i other h, add-one) refl
+found-from rows opcode mode dialect i other h = rw (drop-cons rows i other h, add-one) refl
 
--- a row that serves is one that the mode allows
-serves-allowed : (row : Row) (opcode : ℕ) (mode : Mode) → rowServes row opcode mode ≡ true → allowed row mode ≡ true
+-- a row that serves is one that mode and dialect allow
+serves-allowed : (row : Row) (opcode : ℕ) (mode : Mode) (dialect : Dialect) → rowServes row opcode mode dialect ≡ true → allowed row mode dialect ≡ true
 unfolding rowServes
-serves-allowed row opcode mode e = both (eqb (row .opcode) opcode) (allowed row mode) e .1
+serves-allowed row opcode mode dialect e = both (eqb (row .opcode) opcode) (allowed row mode dialect) e .1
 
--- a test of every row that a mode allows
-unfoldable pub everyRow : Mode → (Command → ℕ → Bool) → List Row → Bool
-everyRow mode test [] = true
-everyRow mode test (row ∷ rest) = (not (allowed row mode) || test (row .command) (row .words)) && everyRow mode test rest
+-- a test of every row that a mode and a dialect allow
+unfoldable pub everyRow : Mode → Dialect → (Command → ℕ → Bool) → List Row → Bool
+everyRow mode dialect test [] = true
+everyRow mode dialect test (row ∷ rest) = (not (allowed row mode dialect) || test (row .command) (row .words)) && everyRow mode dialect test rest
 
 -- what every row passes, a row that is found passes
-pub found-passes : (mode : Mode) (test : Command → ℕ → Bool) (rows : List Row) (opcode : ℕ) (command : Command) (words : ℕ)
-    → everyRow mode test rows ≡ true → foundIn rows opcode mode ≡ Known command words → test command words ≡ true
+pub found-passes : (mode : Mode) (dialect : Dialect) (test : Command → ℕ → Bool) (rows : List Row) (opcode : ℕ) (command : Command) (words : ℕ)
+    → everyRow mode dialect test rows ≡ true → foundIn rows opcode mode dialect ≡ Known command words → test command words ≡ true
 unfolding everyRow foundIn
-found-passes mode test [] opcode command words every found = let z : _≡_ {A = ℕ} 0 1 = cc in absurd (omega arith)
-found-passes mode test (row ∷ rest) opcode command words every found =
-    let parts = both (not (allowed row mode) || test (row .command) (row .words)) (everyRow mode test rest) every in
-    by-test (rowServes row opcode mode)
+found-passes mode dialect test [] opcode command words every found = let z : _≡_ {A = ℕ} 0 1 = cc in absurd (omega arith)
+found-passes mode dialect test (row ∷ rest) opcode command words every found =
+    let parts = both (not (allowed row mode dialect) || test (row .command) (row .words)) (everyRow mode dialect test rest) every in
+    by-test (rowServes row opcode mode dialect)
     (λ serves.
     let here : Known (row .command) (row .words) ≡ Known command words = sym (chosen _ _ _ serves) ∙ found in
     let same-command : row .command ≡ command = cc in
     let same-words : row .words ≡ words = cc in
-    rw (← same-command, ← same-words) (allowed-passes (allowed row mode) (test (row .command) (row .words)) (serves-allowed row opcode mode serves) (parts .0)))
-    (λ other. found-passes mode test rest opcode command words (parts .1) (sym (passed _ _ _ other) ∙ found))
+    rw (← same-command, ← same-words) (allowed-passes (allowed row mode dialect) (test (row .command) (row .words)) (serves-allowed row opcode mode dialect serves) (parts .0)))
+    (λ other. found-passes mode dialect test rest opcode command words (parts .1) (sym (passed _ _ _ other) ∙ found))
   where
     allowed-passes : (a t : Bool) → a ≡ true → (not a || t) ≡ true → t ≡ true
     allowed-passes true t e h = h

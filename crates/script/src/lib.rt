@@ -2,7 +2,7 @@
 ghost use mathlib.Core.Path.{_≡_};
 ghost use Rattle.words.specs.Choice.{pick};
 ghost use Rattle.script.specs.Answers.{numberOf, kindOf, valueOf};
-ghost use Rattle.script.specs.Opcodes.{rowServes, lookedUp};
+ghost use Rattle.script.specs.Opcodes.{inMode, inDialect, rowServes, lookedUp};
 
 // Why a call is refused; `None` where it is not.
 pub enum Refusal {
@@ -22,6 +22,8 @@ pub enum Refusal {
     Ended,
     Retired,
     TooWide,
+    Totals,
+    Overflow,
     Call,
     Length,
     Digit,
@@ -50,6 +52,8 @@ impl Refusal {
             Refusal::Ended => 14,
             Refusal::Retired => 15,
             Refusal::TooWide => 16,
+            Refusal::Totals => 17,
+            Refusal::Overflow => 18,
             Refusal::Call => 19,
             Refusal::Length => 21,
             Refusal::Digit => 22,
@@ -95,6 +99,12 @@ pub enum Mode {
     Flash,
 }
 
+// The board family that a script is written for.
+pub enum Dialect {
+    Am17xx,
+    Dm648,
+}
+
 pub enum Command {
     Load,
     Fill,
@@ -108,22 +118,26 @@ pub enum Command {
     SequentialRead,
 }
 
-// A row of the opcode table: how many argument words follow, and the modes that allow it.
+// A row of the opcode table: how many argument words follow, and the modes and dialects that allow it.
 pub struct Row {
     pub opcode: u32,
     pub command: Command,
     pub words: u32,
     pub sent: bool,
     pub flash: bool,
+    pub am17xx: bool,
+    pub dm648: bool,
 }
 
-pub const ROWS: [Row; 11] = [
+pub const ROWS: [Row; 12] = [
     Row {
         opcode: 0x5853_5901,
         command: Command::Load,
         words: 2,
         sent: true,
         flash: true,
+        am17xx: true,
+        dm648: true,
     },
     Row {
         opcode: 0x5853_590A,
@@ -131,6 +145,8 @@ pub const ROWS: [Row; 11] = [
         words: 4,
         sent: true,
         flash: true,
+        am17xx: true,
+        dm648: true,
     },
     Row {
         opcode: 0x5853_5907,
@@ -138,6 +154,8 @@ pub const ROWS: [Row; 11] = [
         words: 4,
         sent: true,
         flash: true,
+        am17xx: true,
+        dm648: true,
     },
     Row {
         opcode: 0x5853_5903,
@@ -145,6 +163,8 @@ pub const ROWS: [Row; 11] = [
         words: 0,
         sent: true,
         flash: true,
+        am17xx: true,
+        dm648: true,
     },
     Row {
         opcode: 0x5853_5904,
@@ -152,6 +172,8 @@ pub const ROWS: [Row; 11] = [
         words: 0,
         sent: true,
         flash: true,
+        am17xx: true,
+        dm648: true,
     },
     Row {
         opcode: 0x5853_5902,
@@ -159,6 +181,8 @@ pub const ROWS: [Row; 11] = [
         words: 2,
         sent: false,
         flash: true,
+        am17xx: true,
+        dm648: true,
     },
     Row {
         opcode: 0x5853_5902,
@@ -166,6 +190,8 @@ pub const ROWS: [Row; 11] = [
         words: 0,
         sent: true,
         flash: false,
+        am17xx: true,
+        dm648: true,
     },
     Row {
         opcode: 0x5853_5908,
@@ -173,6 +199,8 @@ pub const ROWS: [Row; 11] = [
         words: 0,
         sent: true,
         flash: false,
+        am17xx: true,
+        dm648: true,
     },
     Row {
         opcode: 0x5853_5906,
@@ -180,6 +208,17 @@ pub const ROWS: [Row; 11] = [
         words: 1,
         sent: true,
         flash: true,
+        am17xx: true,
+        dm648: false,
+    },
+    Row {
+        opcode: 0x5853_5906,
+        command: Command::JumpAndClose,
+        words: 3,
+        sent: true,
+        flash: true,
+        am17xx: false,
+        dm648: true,
     },
     Row {
         opcode: 0x5853_590B,
@@ -187,6 +226,8 @@ pub const ROWS: [Row; 11] = [
         words: 1,
         sent: true,
         flash: false,
+        am17xx: true,
+        dm648: true,
     },
     Row {
         opcode: 0x5853_5963,
@@ -194,6 +235,8 @@ pub const ROWS: [Row; 11] = [
         words: 0,
         sent: false,
         flash: true,
+        am17xx: true,
+        dm648: true,
     },
 ];
 
@@ -207,44 +250,64 @@ pub enum Found {
     Unknown,
 }
 
-// Is this the row of an opcode in a mode?
-fn serves(row: Row, opcode: u32, mode: Mode) -> bool
-    ensures { λ r. ⌜ r ≡ rowServes row opcode mode ⌝ }
+// Does a mode allow a row?
+fn in_mode(row: Row, mode: Mode) -> bool
+    ensures { λ r. ⌜ r ≡ inMode row mode ⌝ }
 {
-    if row.opcode != opcode {
-        return false;
-    }
     match mode {
         Mode::Sent => row.sent,
         Mode::Flash => row.flash,
     }
 }
 
-// What a row says of an opcode in a mode, or else what those after it say.
-fn row_first(row: Row, opcode: u32, mode: Mode, later: Found) -> Found
-    ensures { λ r. ⌜ r ≡ pick (rowServes row opcode mode) (Found.Known (row .command) (row .words)) later ⌝ }
+// Does a dialect allow a row?
+fn in_dialect(row: Row, dialect: Dialect) -> bool
+    ensures { λ r. ⌜ r ≡ inDialect row dialect ⌝ }
 {
-    if serves(row, opcode, mode) {
+    match dialect {
+        Dialect::Am17xx => row.am17xx,
+        Dialect::Dm648 => row.dm648,
+    }
+}
+
+// Is this the row of an opcode in a mode and a dialect?
+fn serves(row: Row, opcode: u32, mode: Mode, dialect: Dialect) -> bool
+    ensures { λ r. ⌜ r ≡ rowServes row opcode mode dialect ⌝ }
+{
+    if row.opcode != opcode {
+        return false;
+    }
+    if in_mode(row, mode) {
+        return in_dialect(row, dialect);
+    }
+    false
+}
+
+// What a row says of an opcode in a mode and a dialect, or else what those after it say.
+fn row_first(row: Row, opcode: u32, mode: Mode, dialect: Dialect, later: Found) -> Found
+    ensures { λ r. ⌜ r ≡ pick (rowServes row opcode mode dialect) (Found.Known (row .command) (row .words)) later ⌝ }
+{
+    if serves(row, opcode, mode, dialect) {
         let command = row.command;
         return Found::Known(command, row.words);
     }
     later
 }
 
-// The command of an opcode in a mode, with its argument words, unless the opcode is retired. The rows are gone through from the last to the first.
-pub fn look_up(opcode: u32, mode: Mode) -> Found
-    ensures { λ r. ⌜ r ≡ lookedUp opcode mode ⌝ }
+// The command of an opcode in a mode and a dialect, with its argument words, unless the opcode is retired. The rows are gone through from the last to the first.
+pub fn look_up(opcode: u32, mode: Mode, dialect: Dialect) -> Found
+    ensures { λ r. ⌜ r ≡ lookedUp opcode mode dialect ⌝ }
 {
     if opcode == RETIRED {
         return Found::Retired;
     }
     let table = ROWS;
     let mut found = Found::Unknown;
-    let mut i: usize = 11;
+    let mut i: usize = 12;
     while 0 < i {
         i -= 1;
         let row = table[i];
-        found = row_first(row, opcode, mode, found);
+        found = row_first(row, opcode, mode, dialect, found);
     }
     found
 }

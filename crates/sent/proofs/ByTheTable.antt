@@ -72,8 +72,8 @@ after-append o (w ∷ ws) vs = after-append (wordStep (o .answer .core) (o .memo
 
 -- an opcode that the table has
 module _ (k : Core) (m : List ℕ) (opcode : ℕ) {command : Command} {words : ℕ} (idle : k .stage .phase ≡ Opcode)
-    (known : lookedUp opcode Sent ≡ Known command words) where
-  pub opcode-step : wordStep k m opcode ≡ opening opcode (toward command words (begun k) m noneKept 0)
+    (known : lookedUp opcode Sent (k .dialect) ≡ Known command words) where
+  pub opcode-step : wordStep k m opcode ≡ opening opcode (toward command words (begun command k) m noneKept 0)
   unfolding wordStep
   opcode-step = ap (λ (p : Phase). inPhase p k m opcode) idle ∙ ap (λ (f : Found). atOpcode k m opcode f) known
 
@@ -83,14 +83,14 @@ unfolding acknowledging pick oneWord wordThen
 acknowledged-quiet opcode k m = refl
 
 module _ (k : Core) (m : List ℕ) (opcode : ℕ) {command : Command} where
-  pub opcode-asks : (left : ℕ) → k .stage .phase ≡ Opcode → lookedUp opcode Sent ≡ Known command (suc left)
-      → wordStep k m opcode ≡ said (oneWord (acknowledged opcode)) (asking (begun k) command (suc left) noneKept) leaving m
+  pub opcode-asks : (left : ℕ) → k .stage .phase ≡ Opcode → lookedUp opcode Sent (k .dialect) ≡ Known command (suc left)
+      → wordStep k m opcode ≡ said (oneWord (acknowledged opcode)) (asking (begun command k) command (suc left) noneKept) leaving m
   opcode-asks left idle known =
-      opcode-step k m opcode idle known ∙ ap (opening opcode) (toward-more command (begun k) m noneKept 0 left)
-      ∙ acknowledged-quiet opcode (asking (begun k) command (suc left) (keeping noneKept 0)) m
+      opcode-step k m opcode idle known ∙ ap (opening opcode) (toward-more command (begun command k) m noneKept 0 left)
+      ∙ acknowledged-quiet opcode (asking (begun command k) command (suc left) (keeping noneKept 0)) m
 
-  opcode-waits : (left : ℕ) → k .stage .phase ≡ Opcode → lookedUp opcode Sent ≡ Known command (suc left)
-      → Waits command (begun k) m left noneKept (wordStep k m opcode)
+  opcode-waits : (left : ℕ) → k .stage .phase ≡ Opcode → lookedUp opcode Sent (k .dialect) ≡ Known command (suc left)
+      → Waits command (begun command k) m left noneKept (wordStep k m opcode)
   opcode-waits left idle known =
       let step = opcode-asks left idle known in
       record {
@@ -98,13 +98,13 @@ module _ (k : Core) (m : List ℕ) (opcode : ℕ) {command : Command} where
         memory = ap (λ (o : Outcome). o .memory) step;
       }
 
-  opcode-done : (arguments : List ℕ) → k .stage .phase ≡ Opcode → lookedUp opcode Sent ≡ Known command (length arguments)
-      → afterWords (wordStep k m opcode) arguments ≡ doneWith opcode command (begun k) m arguments
+  opcode-done : (arguments : List ℕ) → k .stage .phase ≡ Opcode → lookedUp opcode Sent (k .dialect) ≡ Known command (length arguments)
+      → afterWords (wordStep k m opcode) arguments ≡ doneWith opcode command (begun command k) m arguments
   unfolding afterWords
   opcode-done [] idle known = opcode-step k m opcode idle known ∙ ap (opening opcode) (chosen _ _ _ (eq-eqb 0 0 refl))
   opcode-done (word ∷ rest) idle known =
       let waits = opcode-waits (length rest) idle known in
-      rw (waits .core, waits .memory) (arguments-done command (begun k) m noneKept word rest)
+      rw (waits .core, waits .memory) (arguments-done command (begun command k) m noneKept word rest)
 
 pub by-the-table : ByTheTable
 by-the-table =

@@ -52,14 +52,14 @@ opcode-served k m word Unknown = refl
 opcode-served k m word Retired = refl
 opcode-served k m word (Known command words) = refl
 
-pub purpose-served : (p : Phase) (k : Core) (m : List ℕ) (word : ℕ) → served (purposeOf p word) k m word ≡ inPhase p k m word
+pub purpose-served : (p : Phase) (k : Core) (m : List ℕ) (word : ℕ) → served (purposeOf p (k .dialect) word) k m word ≡ inPhase p k m word
 unfolding pick
-purpose-served phase.Opcode k m word = opcode-served k m word (lookedUp word Sent)
+purpose-served phase.Opcode k m word = opcode-served k m word (lookedUp word Sent (k .dialect))
 purpose-served (phase.Argument command left kept) k m word = refl
 purpose-served (phase.Data end left) k m word = refl
 purpose-served (phase.Echo n) k m word = refl
 
-module _ (k : Core) (m : List ℕ) (word : ℕ) {p : Purpose} (known : purposeOf (k .stage .phase) word ≡ p) where
+module _ (k : Core) (m : List ℕ) (word : ℕ) {p : Purpose} (known : purposeOf (k .stage .phase) (k .dialect) word ≡ p) where
   served-word : served p k m word ≡ wordStep k m word
   unfolding wordStep
   served-word = sym (ap (λ (x : Purpose). served x k m word) known) ∙ purpose-served (k .stage .phase) k m word

@@ -12,6 +12,8 @@ use Rattle.script.specs.Answers.{numberOf}
 use Rattle.script.specs.Opcodes.{lookedUp}
 use Rattle.script.specs.declared.Command.{Command}
 use Rattle.script.specs.declared.Command.the-variants as command
+use Rattle.script.specs.declared.Dialect.{Dialect}
+use Rattle.script.specs.declared.Dialect.the-variants.{Am17xx, Dm648}
 use Rattle.script.specs.declared.Event.{Event}
 use Rattle.script.specs.declared.Event.the-variants as event
 use Rattle.script.specs.declared.Found.{Found}
@@ -19,19 +21,21 @@ use Rattle.script.specs.declared.Found.the-variants.{Known, Retired, Unknown}
 use Rattle.script.specs.declared.Mode.the-variants.{Sent}
 use Rattle.script.specs.declared.Refusal.{Refusal}
 use Rattle.script.specs.declared.Refusal.the-variants as refusal
+use Rattle.totals.specs.declared.Totals.{Totals}
 use Rattle.commands.specs.Commands.{doneIf, memoryIf, loadJudged, fillJudged, fillDone, fillMemory, settingJudged, settingDone, settingMemory}
 use Rattle.commands.specs.declared.Done.{Done}
 use Rattle.commands.specs.declared.Judged.{Judged}
 use Rattle.commands.specs.declared.Judged.the-variants.{Granted, Refused}
 use Rattle.sent.specs.Lift.{EveryWord}
-use Rattle.sent.specs.Machine.{Outcome, changed, stop, refused, _leaving_, noneKept, loadBegun, after, entered, performed, toward, begun, acknowledging, opening, atOpcode, inPhase, wordStep}
-use Rattle.sent.specs.Replies.{silence, oneWord, wordThen, acknowledged}
+use Rattle.sent.specs.Machine.{Outcome, changed, stop, refused, _leaving_, noneKept, counting, loadBegun, after, entered, performed, toward, begun, acknowledging, opening, atOpcode, inPhase, wordStep}
+use Rattle.sent.specs.Replies.{silence, oneWord, wordThen, acknowledged, doneWord, farewell}
 use Rattle.sent.specs.declared.Core.{Core}
 use Rattle.sent.specs.declared.Kept.{Kept}
 use Rattle.sent.specs.declared.Phase.{Phase}
 use Rattle.sent.specs.declared.Phase.the-variants as phase
 use Rattle.sent.specs.declared.Reply.{Reply}
 use Rattle.sent.specs.declared.Taken.{Taken}
+use Rattle.sent.specs.declared.Tally.{Tally}
 use Rattle.sent.proofs.Memory.{Overwritten, untouched, fill-over, setting-over, data-over}
 
 -- a reply of none, one or two words
@@ -60,20 +64,22 @@ record Stopped (m : List ℕ) (o : Outcome) : Type 0 where
 -- what a command keeps, and what it says
 record Keeps (k : Core) (m : List ℕ) (o : Outcome) : Type 0 where
   windows : o .answer .core .windows ≡ k .windows
+  dialect : o .answer .core .dialect ≡ k .dialect
   begun : o .answer .core .begun ≡ k .begun
   memory : Overwritten m (o .memory)
   said : WholeWords (o .answer .reply)
   stopped : numberOf (o .answer .refusal) ≢ 0 → Stopped m o
 
 -- one that is accepted, and one that is refused
-accepting : {k : Core} {m left : List ℕ} {reply : Reply} {event : Event} {ended on : Bool} {register : ℕ} {next : Phase} → WholeWords reply → Overwritten m left
-    → Keeps k m (record { refusal = refusal.None; reply = reply; event = event; core = changed k ended on (k .begun) register next } leaving left)
-accepting said over = record { windows = refl; begun = refl; memory = over; said = said; stopped = λ h. absurd (h refl) }
+accepting : {k : Core} {m left : List ℕ} {reply : Reply} {event : Event} {ended on : Bool} {tally : Tally} {next : Phase} → WholeWords reply → Overwritten m left
+    → Keeps k m (record { refusal = refusal.None; reply = reply; event = event; core = changed k ended on (k .begun) tally next } leaving left)
+accepting said over = record { windows = refl; dialect = refl; begun = refl; memory = over; said = said; stopped = λ h. absurd (h refl) }
 
 refusing : (k : Core) (m : List ℕ) (q : Refusal) → Keeps k m (refused k q leaving m)
 refusing k m q =
     record {
       windows = refl;
+      dialect = refl;
       begun = refl;
       memory = untouched;
       said = none-said;
@@ -84,10 +90,10 @@ load-keeps : (k : Core) (m : List ℕ) (address size : ℕ) (judged : Judged) �
 load-keeps k m address size (Granted place) = accepting none-said untouched
 load-keeps k m address size (Refused q) = refusing k m q
 
-done-keeps : (k : Core) (m left : List ℕ) (done : Done) → Overwritten m left → (numberOf (done .refusal) ≢ 0 → left ≡ m)
-    → Keeps k m (after k done leaving left)
+done-keeps : (k : Core) (m left : List ℕ) (totals : Totals) (done : Done) → Overwritten m left → (numberOf (done .refusal) ≢ 0 → left ≡ m)
+    → Keeps k m (after k totals done leaving left)
 unfolding after
-done-keeps k m left done over same =
+done-keeps k m left totals done over same =
     of-choice (λ (t : Taken). Keeps k m (t leaving left)) _ (λ h. accepting none-said over)
     (λ h. subst (λ (l : List ℕ). Keeps k m (refused k (done .refusal) leaving l)) (sym (same (eqb-false _ _ h))) (refusing k m (done .refusal)))
 
@@ -100,34 +106,43 @@ kept-if (Refused q) register told fed writing m h = refl
 fill-keeps : (k : Core) (m : List ℕ) (kept : Kept) (word : ℕ) → Keeps k m (performed command.Fill k m kept word)
 unfolding fillDone fillMemory
 fill-keeps k m kept word =
-    done-keeps k m _ _ (fill-over (k .windows) m (kept .first) (kept .second) (kept .third) word)
-    (kept-if (fillJudged (k .windows) (kept .first) (kept .second) (kept .third)) _ _ _ _ m)
+    let judged : Judged = counting k (kept .second) (fillJudged (k .windows) (kept .first) (kept .second) (kept .third)) in
+    done-keeps k m _ _ _ (fill-over judged m (kept .second) (kept .third) word) (kept-if judged _ _ _ _ m)
 
 setting-keeps : (k : Core) (m : List ℕ) (kept : Kept) (word : ℕ) → Keeps k m (performed command.BootTable k m kept word)
 unfolding settingDone settingMemory
 setting-keeps k m kept word =
-    done-keeps k m _ _ (setting-over (k .windows) m (kept .first) (kept .second) (kept .third))
-    (kept-if (settingJudged (k .windows) (kept .first) (kept .second) (kept .third)) _ _ _ _ m)
+    let judged : Judged = settingJudged (k .windows) (kept .first) (kept .second) (kept .third) in
+    done-keeps k m _ _ _ (setting-over judged m (kept .first) (kept .third)) (kept-if judged _ _ _ _ m)
+
+farewell-said : (dialect : Dialect) → WholeWords (farewell dialect)
+farewell-said Am17xx = none-said
+farewell-said Dm648 = one-said doneWord
 
 entered-keeps : (k : Core) (m : List ℕ) (t : Taken) → Keeps k m (t leaving m) → Keeps k m (entered t leaving m)
+unfolding entered
 entered-keeps k m t keeps =
-    record {
+    of-choice (λ (x : Taken). Keeps k m (x leaving m)) _
+    {a = record { refusal = t .refusal; reply = farewell (t .core .dialect); event = t .event; core = stop (t .core) }}
+    (λ h. record {
       windows = keeps .windows;
+      dialect = keeps .dialect;
       begun = keeps .begun;
       memory = untouched;
-      said = keeps .said;
-      stopped = λ h. record { silenced = keeps .stopped h .silenced; ended = refl; same = refl };
-    }
+      said = farewell-said (t .core .dialect);
+      stopped = λ e. absurd (e (eqb-true _ _ h));
+    })
+    (λ h. keeps)
 
 performed-keeps : (c : Command) (k : Core) (m : List ℕ) (kept : Kept) (word : ℕ) → Keeps k m (performed c k m kept word)
-performed-keeps command.Load k m kept word = load-keeps k m (kept .third) word (loadJudged (k .windows) (kept .third) word)
+performed-keeps command.Load k m kept word = load-keeps k m (kept .third) word (counting k word (loadJudged (k .windows) (kept .third) word))
 performed-keeps command.Fill k m kept word = fill-keeps k m kept word
 performed-keeps command.BootTable k m kept word = setting-keeps k m kept word
 performed-keeps command.Enable k m kept word = accepting none-said untouched
 performed-keeps command.Disable k m kept word = accepting none-said untouched
 performed-keeps command.Request k m kept word = accepting (one-said (k .tally .register)) untouched
 performed-keeps command.StartOver k m kept word = accepting none-said untouched
-performed-keeps command.JumpAndClose k m kept word = entered-keeps k m _ (done-keeps k m m _ untouched (λ h. refl))
+performed-keeps command.JumpAndClose k m kept word = entered-keeps k m _ (done-keeps k m m _ _ untouched (λ h. refl))
 performed-keeps command.Ping k m kept word = accepting (one-said word) untouched
 performed-keeps command.SequentialRead k m kept word = refusing k m refusal.Opcode
 
@@ -141,6 +156,7 @@ acknowledged-keeps : (opcode : ℕ) (k : Core) (m left : List ℕ) (t : Taken) �
 acknowledged-keeps opcode k m left t accepted keeps =
     record {
       windows = keeps .windows;
+      dialect = keeps .dialect;
       begun = keeps .begun;
       memory = keeps .memory;
       said = then-said (acknowledged opcode) (t .reply) (keeps .said);
@@ -153,12 +169,13 @@ opening-keeps opcode k m o keeps =
     of-choice (λ (t : Taken). Keeps k m (t leaving o .memory)) _
     (λ h. acknowledged-keeps opcode k m (o .memory) (o .answer) (eqb-true _ _ h) keeps) (λ h. keeps)
 
--- a word, from what its command keeps of a core with the same windows that has begun where this one has
-from-keeps : (k first : Core) (m : List ℕ) (o : Outcome) → first .windows ≡ k .windows → (k .begun ≡ true → first .begun ≡ true)
+-- a word, from what its command keeps of a core with the same windows and dialect that has begun where this one has
+from-keeps : (k first : Core) (m : List ℕ) (o : Outcome) → first .windows ≡ k .windows → first .dialect ≡ k .dialect → (k .begun ≡ true → first .begun ≡ true)
     → (k .stage .phase ≡ phase.Opcode → o .answer .core .begun ≡ false → o .answer .core ≡ stop k) → Keeps first m o → EveryWord k m o
-from-keeps k first m o windows since unbegun keeps =
+from-keeps k first m o windows dialect since unbegun keeps =
     record {
       windows = keeps .windows ∙ windows;
+      dialect = keeps .dialect ∙ dialect;
       begun = λ e. keeps .begun ∙ since e;
       unbegun = unbegun;
       same-length = keeps .memory .same-length;
@@ -175,17 +192,17 @@ from-keeps k first m o windows since unbegun keeps =
 another-word : (k : Core) (m : List ℕ) (o : Outcome) {p : Phase} → k .stage .phase ≡ p → (p ≡ phase.Opcode → _≡_ {A = ℕ} 0 1)
     → Keeps k m o → EveryWord k m o
 another-word k m o here differs keeps =
-    from-keeps k k m o refl (λ e. e) (λ idle. let z = differs (sym here ∙ idle) in absurd (omega arith)) keeps
+    from-keeps k k m o refl refl (λ e. e) (λ idle. let z = differs (sym here ∙ idle) in absurd (omega arith)) keeps
 
 opcode-word : (k : Core) (m : List ℕ) (word : ℕ) (found : Found) → EveryWord k m (atOpcode k m word found)
-opcode-word k m word Unknown = from-keeps k k m _ refl (λ e. e) (λ idle e. refl) (refusing k m refusal.Opcode)
-opcode-word k m word Retired = from-keeps k k m _ refl (λ e. e) (λ idle e. refl) (refusing k m refusal.Retired)
+opcode-word k m word Unknown = from-keeps k k m _ refl refl (λ e. e) (λ idle e. refl) (refusing k m refusal.Opcode)
+opcode-word k m word Retired = from-keeps k k m _ refl refl (λ e. e) (λ idle e. refl) (refusing k m refusal.Retired)
 opcode-word k m word (Known c words) =
-    let keeps = opening-keeps word (begun k) m _ (toward-keeps c words (begun k) m noneKept 0) in
-    from-keeps k (begun k) m _ refl (λ e. refl) (λ idle e. absurd (true≢false (sym (keeps .begun) ∙ e))) keeps
+    let keeps = opening-keeps word (begun c k) m _ (toward-keeps c words (begun c k) m noneKept 0) in
+    from-keeps k (begun c k) m _ refl refl (λ e. refl) (λ idle e. absurd (true≢false (sym (keeps .begun) ∙ e))) keeps
 
 phase-word : (p : Phase) (k : Core) (m : List ℕ) (word : ℕ) → k .stage .phase ≡ p → EveryWord k m (inPhase p k m word)
-phase-word phase.Opcode k m word here = opcode-word k m word (lookedUp word Sent)
+phase-word phase.Opcode k m word here = opcode-word k m word (lookedUp word Sent (k .dialect))
 phase-word (phase.Argument c left kept) k m word here = another-word k m _ here (λ e. cc) (toward-keeps c (left - 1) k m kept word)
 phase-word (phase.Data end left) k m word here =
     another-word k m _ here (λ e. cc) (accepting none-said (data-over m (end - left) word left))

@@ -20,7 +20,7 @@ use Rattle.commands.proofs.Loading.{loaded-append}
 use Rattle.commands.specs.declared.Judged.{Judged}
 use Rattle.commands.specs.declared.Judged.the-variants.{Granted}
 use Rattle.sent.specs.Bus.{allUnits}
-use Rattle.sent.specs.Machine.{Outcome, await, quiet, _leaving_, awaited, loadBegun, dataBytes, performed, inPhase, wordStep}
+use Rattle.sent.specs.Machine.{Outcome, tallied, await, registered, countedOn, quiet, _leaving_, awaited, counting, loadBegun, dataBytes, performed, inPhase, wordStep}
 use Rattle.sent.specs.Words.{afterWords}
 use Rattle.sent.specs.declared.Bus.the-variants.{Bytes}
 use Rattle.sent.specs.declared.Core.{Core}
@@ -86,7 +86,7 @@ data-fed r n w =
 -- a data word where some are left
 pub data-step : (k : Core) (m : List ℕ) (p n w : ℕ) → 0 < n → k .stage .phase ≡ awaited (p + n) n
     → wordStep k m w
-    ≡ quiet (await k (pick (k .on) (fed (k .tally .register) w (8 * min n 4)) (k .tally .register)) (awaited (p + n) (n - 4)))
+    ≡ quiet (await k (registered k (pick (k .on) (fed (k .tally .register) w (8 * min n 4)) (k .tally .register))) (awaited (p + n) (n - 4)))
     leaving loaded m p (dataBytes w n)
 unfolding wordStep awaited
 data-step k m p n w more at =
@@ -120,19 +120,19 @@ awaited-none end = chosen _ _ _ (eq-eqb 0 0 refl)
 -- the data of a load sent word by word: the bytes are those of the whole load, and so is what they feed
 pub pieces : (ws : List ℕ) (k : Core) (m : List ℕ) (p n : ℕ) → k .stage .phase ≡ awaited (p + n) n → length ws ≡ (n + 3) / 4
     → afterWords (quiet k leaving m) ws
-    ≡ quiet (await k (pick (k .on) (wordsFed (k .tally .register) ((n + 3) / 4) (take n (bytesOf ws))) (k .tally .register)) phase.Opcode)
+    ≡ quiet (await k (registered k (pick (k .on) (wordsFed (k .tally .register) ((n + 3) / 4) (take n (bytesOf ws))) (k .tally .register))) phase.Opcode)
     leaving loaded m p (take n (bytesOf ws))
 unfolding afterWords loaded put
 pieces [] k m p zero at whole =
-    ap₂ (λ (r : ℕ) (x : Phase). quiet (await k r x) leaving m) (fed-none (k .on) (k .tally .register)) (at ∙ awaited-none (p + 0))
+    ap₂ (λ (r : ℕ) (x : Phase). quiet (await k (registered k r) x) leaving m) (fed-none (k .on) (k .tally .register)) (at ∙ awaited-none (p + 0))
 pieces [] k m p (suc n) at whole = absurd (omega arith)
 pieces (w ∷ ws) k m p n at whole =
     let more : 0 < n = omega arith in
     let end : p + n ≡ p + length (dataBytes w n) + (n - 4) = omega (arith, data-length w n) in
-    let next = await k (pick (k .on) (fed (k .tally .register) w (8 * min n 4)) (k .tally .register)) (awaited (p + n) (n - 4)) in
+    let next = await k (registered k (pick (k .on) (fed (k .tally .register) w (8 * min n 4)) (k .tally .register))) (awaited (p + n) (n - 4)) in
     ap (λ (o : Outcome). afterWords o ws) (data-step k m p n w more at)
     ∙ pieces ws next (loaded m p (dataBytes w n)) (p + length (dataBytes w n)) (n - 4) (ap (λ (e : ℕ). awaited e (n - 4)) end) (omega arith)
-    ∙ ap₂ (λ (r : ℕ) (left : List ℕ). quiet (await k r phase.Opcode) leaving left) (fed-next (k .on) (k .tally .register) n w ws more)
+    ∙ ap₂ (λ (r : ℕ) (left : List ℕ). quiet (await k (registered k r) phase.Opcode) leaving left) (fed-next (k .on) (k .tally .register) n w ws more)
     (loaded-append m p (dataBytes w n) (take (n - 4) (bytesOf ws)) ∙ ap (loaded m p) (all-bytes n w ws))
 
 -- words have four bytes each
@@ -152,16 +152,18 @@ unfolding pick loadFed
 load-fed true r address n bytes e = ap (λ (x : ℕ). wordsFed (fedWords r (address ∷ x ∷ [])) ((x + 3) / 4) bytes) (sym e)
 load-fed false r address n bytes e = refl
 
--- a load that is granted at its size word, with its data: to register and memory it does what the whole load does
+-- a load that is granted at its size word, with its data: to register, totals and memory it does what the whole load does
 pub load-in-pieces : (k : Core) (m : List ℕ) (kept : Kept) (size place : ℕ) (ws : List ℕ)
-    → loadJudged (k .windows) (kept .third) size ≡ Granted place → length ws ≡ (size + 3) / 4
+    → counting k size (loadJudged (k .windows) (kept .third) size) ≡ Granted place → length ws ≡ (size + 3) / 4
     → afterWords (performed command.Load k m kept size) ws
-    ≡ quiet (await k (pick (k .on) (loadFed (k .tally .register) (kept .third) (take size (bytesOf ws))) (k .tally .register)) phase.Opcode)
+    ≡ quiet
+    (await k (tallied (pick (k .on) (loadFed (k .tally .register) (kept .third) (take size (bytesOf ws))) (k .tally .register)) (countedOn k size)) phase.Opcode)
     leaving loaded m place (take size (bytesOf ws))
 load-in-pieces k m kept size place ws granted whole =
     let address : ℕ = kept .third in
     let r : ℕ = k .tally .register in
-    let next = await k (pick (k .on) (fedWords r (address ∷ size ∷ [])) r) (awaited (place + size) size) in
+    let next = await k (tallied (pick (k .on) (fedWords r (address ∷ size ∷ [])) r) (countedOn k size)) (awaited (place + size) size) in
     ap (λ (j : Judged). afterWords (loadBegun k address size j leaving m) ws) granted
     ∙ pieces ws next m place size refl whole
-    ∙ ap (λ (x : ℕ). quiet (await k x phase.Opcode) leaving loaded m place (take size (bytesOf ws))) (load-fed (k .on) r address size _ (data-count size ws whole))
+    ∙ ap (λ (x : ℕ). quiet (await k (tallied x (countedOn k size)) phase.Opcode) leaving loaded m place (take size (bytesOf ws)))
+    (load-fed (k .on) r address size _ (data-count size ws whole))

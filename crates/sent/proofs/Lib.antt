@@ -1,7 +1,9 @@
 pub mod ByTheTable
 pub mod Cases
+pub mod Counting
 pub mod Every
 pub mod Feeding
+pub mod Granted
 pub mod Laws
 pub mod Lift
 pub mod Memory

@@ -14,6 +14,7 @@ use Rattle.words.proofs.Choice.{chosen, by-test, of-choice}
 use Rattle.windows.specs.Window.{sumOf}
 use Rattle.windows.specs.declared.Window.{Window}
 use Rattle.script.specs.Answers.{numberOf}
+use Rattle.script.specs.declared.Dialect.{Dialect}
 use Rattle.script.specs.declared.Refusal.the-variants as refusal
 use Rattle.sent.specs.Bus.{unitBits, unitsInWord, startUnit, unitsOf, allUnits, firstUnit, pushed}
 use Rattle.sent.specs.Feeding.{State, Heard, next, fed, answers, NoneRefused}
@@ -301,9 +302,9 @@ unit-whole-units bus x u =
     (λ h. of-choice (InUnits bus) _ (λ h. silence-whole bus)
     (λ h. words-whole bus _ (every-word (x .session .core) (x .memory) _ .words))))))
 
-silent-opening : (count : ℕ) (windows : List Window) → sentBytes (openedBy Halves count windows .reply) ≡ []
+silent-opening : (dialect : Dialect) (count : ℕ) (windows : List Window) → sentBytes (openedBy Halves dialect count windows .reply) ≡ []
 unfolding openedBy
-silent-opening count windows = of-choice (λ (o : Opened). sentBytes (o .reply) ≡ []) _ (λ h. refl) (λ h. refl)
+silent-opening dialect count windows = of-choice (λ (o : Opened). sentBytes (o .reply) ≡ []) _ (λ h. refl) (λ h. refl)
 
 pub lines : Lines
 lines =

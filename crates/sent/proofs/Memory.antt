@@ -8,8 +8,7 @@ use lib.ListN.{length, set, take}
 use Rattle.words.specs.Bytes.{byte, put, sizeOf, fieldWritten}
 use Rattle.words.proofs.Choice.{of-choice}
 use Rattle.words.proofs.Puts.{length-put}
-use Rattle.windows.specs.declared.Window.{Window}
-use Rattle.commands.specs.Commands.{memoryIf, loaded, unitOf, fillJudged, filled, typeFilled, fillMemory, shapeOf, settingJudged, shapeSet, settingMemory}
+use Rattle.commands.specs.Commands.{memoryIf, loaded, unitOf, filled, typeFilled, fillMemory, shapeOf, shapeSet, settingMemory}
 use Rattle.commands.specs.declared.Judged.{Judged}
 use Rattle.commands.specs.declared.Judged.the-variants.{Granted, Refused}
 use Rattle.commands.specs.declared.Shape.{Shape}
@@ -69,15 +68,13 @@ pub if-over : (m : List ℕ) (judged : Judged) (writing : ℕ → List ℕ) → 
 if-over m (Granted place) writing over = over place
 if-over m (Refused q) writing over = untouched
 
-pub fill-over : (windows : List Window) (m : List ℕ) (address size kind pattern : ℕ) → Overwritten m (fillMemory windows m address size kind pattern)
+pub fill-over : (judged : Judged) (m : List ℕ) (size kind pattern : ℕ) → Overwritten m (fillMemory judged m size kind pattern)
 unfolding fillMemory
-fill-over windows m address size kind pattern =
-    if-over m (fillJudged windows address size kind) _ (λ place. filled-over m place size (unitOf kind) pattern)
+fill-over judged m size kind pattern = if-over m judged _ (λ place. filled-over m place size (unitOf kind) pattern)
 
-pub setting-over : (windows : List Window) (m : List ℕ) (word address value : ℕ) → Overwritten m (settingMemory windows m word address value)
+pub setting-over : (judged : Judged) (m : List ℕ) (word value : ℕ) → Overwritten m (settingMemory judged m word value)
 unfolding settingMemory
-setting-over windows m word address value =
-    if-over m (settingJudged windows word address value) _ (λ place. set-shape-over m place (shapeOf word) value)
+setting-over judged m word value = if-over m judged _ (λ place. set-shape-over m place (shapeOf word) value)
 
 -- some of some bytes, and the bytes of words
 pub take-bytes : (n : ℕ) (bs : List ℕ) → AreBytes bs → AreBytes (take n bs)

@@ -6,6 +6,7 @@ use lib.ListN.{getD}
 use Rattle.script.specs.declared.Event.{Event}
 use Rattle.script.specs.declared.Refusal.{Refusal}
 use Rattle.script.specs.declared.Refusal.the-variants.{None}
+use Rattle.totals.specs.declared.Totals.{Totals}
 use Rattle.sent.specs.Line.{unitStep}
 use Rattle.sent.specs.declared.Bus.{Bus}
 use Rattle.sent.specs.declared.Reply.{Reply}
@@ -23,6 +24,10 @@ AreBytes bs = (i : ℕ) → getD bs i 0 < 256
 -- a session's checksum register
 abbrev pub register : State → ℕ
 register x = x .session .core .tally .register
+
+-- its totals
+abbrev pub totals : State → Totals
+totals x = x .session .core .tally .totals
 
 -- what the host hears of a unit
 pub record Heard : Type 0 where

@@ -1,4 +1,5 @@
 pub mod Bus
+pub mod Counting
 pub mod Feeding
 pub mod Lift
 pub mod Line

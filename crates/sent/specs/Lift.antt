@@ -9,6 +9,7 @@ use lib.ListN.{length, replicate}
 use Rattle.windows.specs.Window.{sumOf}
 use Rattle.windows.specs.declared.Window.{Window}
 use Rattle.script.specs.Answers.{numberOf}
+use Rattle.script.specs.declared.Dialect.{Dialect}
 use Rattle.script.specs.declared.Event.the-variants.{Nothing}
 use Rattle.script.specs.declared.Refusal.{Refusal}
 use Rattle.script.specs.declared.Refusal.the-variants.{None, Ended}
@@ -64,6 +65,7 @@ pub record UnitsAreTheWord (bus : Bus) (k : Core) (m : List ℕ) (word : ℕ) : 
 -- what every word does, whatever awaits it
 pub record EveryWord (k : Core) (m : List ℕ) (o : Outcome) : Type 0 where
   pub windows : o .answer .core .windows ≡ k .windows
+  pub dialect : o .answer .core .dialect ≡ k .dialect
   -- an opcode that has been acknowledged stays so; where one is awaited, a word that is none leaves the core as it was, ended
   pub begun : k .begun ≡ true → o .answer .core .begun ≡ true
   pub unbegun : k .stage .phase ≡ Opcode → o .answer .core .begun ≡ false → o .answer .core ≡ stop k
@@ -109,4 +111,4 @@ pub record Lines : Type 0 where
   -- a reply is whole units: on the line of halves the count of its bytes is even
   pub whole-units : (bus : Bus) (x : State) (unit : ℕ) → heard bus x unit .reply .count % (unitBits bus / 8) ≡ 0
   -- the line of halves has no greeting
-  pub no-greeting : (count : ℕ) (windows : List Window) → sentBytes (openedBy Halves count windows .reply) ≡ []
+  pub no-greeting : (dialect : Dialect) (count : ℕ) (windows : List Window) → sentBytes (openedBy Halves dialect count windows .reply) ≡ []

@@ -11,36 +11,53 @@ use Rattle.script.specs.Answers.{numberOf}
 use Rattle.script.specs.Opcodes.{lookedUp}
 use Rattle.script.specs.declared.Command.{Command}
 use Rattle.script.specs.declared.Command.the-variants as command
+use Rattle.script.specs.declared.Dialect.{Dialect}
+use Rattle.script.specs.declared.Dialect.the-variants.{Am17xx, Dm648}
 use Rattle.script.specs.declared.Event.the-variants.{Nothing}
 use Rattle.script.specs.declared.Found.{Found}
 use Rattle.script.specs.declared.Found.the-variants.{Known, Retired, Unknown}
 use Rattle.script.specs.declared.Mode.the-variants.{Sent}
 use Rattle.script.specs.declared.Refusal.{Refusal}
 use Rattle.script.specs.declared.Refusal.the-variants as refusal
-use Rattle.commands.specs.Commands.{loadJudged, loaded, fillDone, fillMemory, settingDone, settingMemory, closeDone}
+use Rattle.totals.specs.Totals.{standing, wouldPass, differs, counted, turned}
+use Rattle.totals.specs.declared.Totals.{Totals}
+use Rattle.commands.specs.Commands.{barred, loadJudged, loaded, fillJudged, fillDone, fillMemory, settingJudged, settingDone, settingMemory, entryJudged, closeDone}
 use Rattle.commands.specs.declared.Done.{Done}
 use Rattle.commands.specs.declared.Judged.{Judged}
 use Rattle.commands.specs.declared.Judged.the-variants.{Granted, Refused}
-use Rattle.sent.specs.Replies.{silence, oneWord, wordThen, acknowledged}
+use Rattle.sent.specs.Replies.{silence, oneWord, wordThen, acknowledged, farewell}
 use Rattle.sent.specs.declared.Core.{Core}
 use Rattle.sent.specs.declared.Kept.{Kept}
 use Rattle.sent.specs.declared.Phase.{Phase}
 use Rattle.sent.specs.declared.Phase.the-variants as phase
 use Rattle.sent.specs.declared.Reply.{Reply}
 use Rattle.sent.specs.declared.Taken.{Taken}
+use Rattle.sent.specs.declared.Tally.{Tally}
+
+-- what Start-Over takes back: the register and the totals
+abbrev pub tallied : ℕ → Totals → Tally
+tallied register totals = record { register = register; totals = totals }
 
 -- all that a word may change
-abbrev pub changed : Core → Bool → Bool → Bool → ℕ → Phase → Core
-changed k ended on begun register next =
-    record { windows = k .windows; ended = ended; on = on; begun = begun; tally = record { register = register }; stage = record { phase = next } }
+abbrev pub changed : Core → Bool → Bool → Bool → Tally → Phase → Core
+changed k ended on begun tally next =
+    record { windows = k .windows; dialect = k .dialect; ended = ended; on = on; begun = begun; tally = tally; stage = record { phase = next } }
 
--- the same with another register, awaiting another word
-abbrev pub await : Core → ℕ → Phase → Core
-await k register next = changed k (k .ended) (k .on) (k .begun) register next
+-- the same with another tally, awaiting another word
+abbrev pub await : Core → Tally → Phase → Core
+await k tally next = changed k (k .ended) (k .on) (k .begun) tally next
+
+-- with another register
+abbrev pub registered : Core → ℕ → Tally
+registered k register = tallied register (k .tally .totals)
+
+-- with one more section of so many bytes
+abbrev pub countedOn : Core → ℕ → Totals
+countedOn k size = counted (k .dialect) (k .tally .totals) size
 
 -- ended, all else as it was
 abbrev pub stop : Core → Core
-stop k = changed k true (k .on) (k .begun) (k .tally .register) (k .stage .phase)
+stop k = changed k true (k .on) (k .begun) (k .tally) (k .stage .phase)
 
 -- refused: no reply, no event, the session ended
 abbrev pub refused : Core → Refusal → Taken
@@ -63,16 +80,19 @@ infix 20 _leaving_
 abbrev pub _leaving_ : Taken → List ℕ → Outcome
 answer leaving memory = record { answer = answer; memory = memory }
 
--- a command that was judged and done at its last argument word
-unfoldable pub after : Core → Done → Taken
-after k done =
+-- a command that was judged and done at its last argument word, with the totals that it leaves
+unfoldable pub after : Core → Totals → Done → Taken
+after k totals done =
     pick (eqb (numberOf (done .refusal)) 0)
-    (record { refusal = refusal.None; reply = silence; event = done .event; core = await k (done .register) phase.Opcode })
+    (record { refusal = refusal.None; reply = silence; event = done .event; core = await k (tallied (done .register) totals) phase.Opcode })
     (refused k (done .refusal))
 
--- Jump & Close: entered, the session is ended
-abbrev pub entered : Taken → Taken
-entered t = record { refusal = t .refusal; reply = t .reply; event = t .event; core = stop (t .core) }
+-- Jump & Close: entered, the session is ended, and a DM648 says DONE
+unfoldable pub entered : Taken → Taken
+entered t =
+    pick (eqb (numberOf (t .refusal)) 0)
+    (record { refusal = t .refusal; reply = farewell (t .core .dialect); event = t .event; core = stop (t .core) })
+    t
 
 -- no argument word of a command has come yet
 abbrev pub noneKept : Kept
@@ -86,10 +106,15 @@ keeping kept word = record { first = kept .second; second = kept .third; third =
 unfoldable pub awaited : ℕ → ℕ → Phase
 awaited end left = pick (eqb left 0) phase.Opcode (phase.Data end left)
 
--- a load at its size word: 7, else address and size are fed
+-- 18: a load or a fill, as judged before, that would take a total past the largest
+abbrev pub counting : Core → ℕ → Judged → Judged
+counting k size judged = barred (wouldPass (k .dialect) (k .tally .totals) size) refusal.Overflow judged
+
+-- a load at its size word: 7, 18, else address and size are fed, and it counts
 abbrev pub loadBegun : Core → ℕ → ℕ → Judged → Taken
 loadBegun k address size (Granted place) =
-    quiet (await k (pick (k .on) (fedWords (k .tally .register) (address ∷ size ∷ [])) (k .tally .register)) (awaited (place + size) size))
+    quiet
+    (await k (tallied (pick (k .on) (fedWords (k .tally .register) (address ∷ size ∷ [])) (k .tally .register)) (countedOn k size)) (awaited (place + size) size))
 loadBegun k address size (Refused q) = refused k q
 
 -- the bytes of a data word that belong to the load
@@ -100,32 +125,46 @@ dataBytes word left = take left (byte word 0 ∷ byte word 1 ∷ byte word 2 ∷
 unfoldable pub echoing : ℕ → Phase
 echoing n = pick (eqb n 0) phase.Opcode (phase.Echo n)
 
+-- Jump & Close ends with its address, or in DM648 with the two totals after it
+abbrev pub closeAddress : Dialect → Kept → ℕ → ℕ
+closeAddress Am17xx kept word = word
+closeAddress Dm648 kept word = kept .second
+
+-- 10, then 17 where the two words, sections and bytes, differ from the totals
+abbrev pub closeJudged : Core → Kept → ℕ → Judged
+closeJudged k kept word =
+    barred (differs (k .dialect) (k .tally .totals) (standing (kept .third) word)) refusal.Totals
+    (entryJudged (k .windows) (closeAddress (k .dialect) kept word))
+
 -- what a command does with its words: those kept, and the last; what the table allows in flash mode only is 6
 abbrev pub performed : Command → Core → List ℕ → Kept → ℕ → Outcome
-performed command.Load k m kept word = loadBegun k (kept .third) word (loadJudged (k .windows) (kept .third) word) leaving m
+performed command.Load k m kept word =
+    loadBegun k (kept .third) word (counting k word (loadJudged (k .windows) (kept .third) word)) leaving m
 performed command.Fill k m kept word =
-    after k (fillDone (k .windows) (k .on) (k .tally .register) (kept .first) (kept .second) (kept .third) word)
-    leaving fillMemory (k .windows) m (kept .first) (kept .second) (kept .third) word
+    let judged : Judged = counting k (kept .second) (fillJudged (k .windows) (kept .first) (kept .second) (kept .third)) in
+    after k (countedOn k (kept .second)) (fillDone judged (k .on) (k .tally .register) (kept .first) (kept .second) (kept .third) word)
+    leaving fillMemory judged m (kept .second) (kept .third) word
 performed command.BootTable k m kept word =
-    after k (settingDone (k .windows) (k .tally .register) (kept .first) (kept .second) (kept .third) word)
-    leaving settingMemory (k .windows) m (kept .first) (kept .second) (kept .third)
-performed command.Enable k m kept word = quiet (changed k (k .ended) true (k .begun) 0 phase.Opcode) leaving m
-performed command.Disable k m kept word = quiet (changed k (k .ended) false (k .begun) (k .tally .register) phase.Opcode) leaving m
-performed command.Request k m kept word = said (oneWord (k .tally .register)) (await k 0 phase.Opcode) leaving m
-performed command.StartOver k m kept word = quiet (await k 0 phase.Opcode) leaving m
-performed command.JumpAndClose k m kept word = entered (after k (closeDone (k .windows) (k .tally .register) word)) leaving m
-performed command.Ping k m kept word = said (oneWord word) (await k (k .tally .register) (echoing word)) leaving m
+    let judged : Judged = settingJudged (k .windows) (kept .first) (kept .second) (kept .third) in
+    after k (k .tally .totals) (settingDone judged (k .tally .register) word) leaving settingMemory judged m (kept .first) (kept .third)
+performed command.Enable k m kept word = quiet (changed k (k .ended) true (k .begun) (registered k 0) phase.Opcode) leaving m
+performed command.Disable k m kept word = quiet (changed k (k .ended) false (k .begun) (k .tally) phase.Opcode) leaving m
+performed command.Request k m kept word = said (oneWord (k .tally .register)) (await k (registered k 0) phase.Opcode) leaving m
+performed command.StartOver k m kept word = quiet (await k (registered k 0) phase.Opcode) leaving m
+performed command.JumpAndClose k m kept word =
+    entered (after k (k .tally .totals) (closeDone (closeJudged k kept word) (k .tally .register) (closeAddress (k .dialect) kept word))) leaving m
+performed command.Ping k m kept word = said (oneWord word) (await k (k .tally) (echoing word)) leaving m
 performed command.SequentialRead k m kept word = refused k refusal.Opcode leaving m
 
 -- a command with so many words to come: with none it is done, else the next is awaited and this one kept
 abbrev pub toward : Command → ℕ → Core → List ℕ → Kept → ℕ → Outcome
 toward command left k m kept word =
     pick (eqb left 0) (performed command k m kept word)
-    (quiet (await k (k .tally .register) (phase.Argument command left (keeping kept word))) leaving m)
+    (quiet (await k (k .tally) (phase.Argument command left (keeping kept word))) leaving m)
 
--- what an opcode does for all: the session has begun
-abbrev pub begun : Core → Core
-begun k = changed k (k .ended) (k .on) true (k .tally .register) (k .stage .phase)
+-- what an opcode does for all: the session has begun, and the totals are turned as its command says
+abbrev pub begun : Command → Core → Core
+begun command k = changed k (k .ended) (k .on) true (tallied (k .tally .register) (turned command (k .tally .totals))) (k .stage .phase)
 
 -- and where it is accepted, its acknowledgement comes before all else that is said
 unfoldable pub acknowledging : ℕ → Taken → Taken
@@ -142,16 +181,16 @@ opening opcode o = acknowledging opcode (o .answer) leaving o .memory
 abbrev pub atOpcode : Core → List ℕ → ℕ → Found → Outcome
 atOpcode k m opcode Unknown = refused k refusal.Opcode leaving m
 atOpcode k m opcode Retired = refused k refusal.Retired leaving m
-atOpcode k m opcode (Known command words) = opening opcode (toward command words (begun k) m noneKept 0)
+atOpcode k m opcode (Known command words) = opening opcode (toward command words (begun command k) m noneKept 0)
 
 -- a whole word, by the phase that awaits it
 abbrev pub inPhase : Phase → Core → List ℕ → ℕ → Outcome
-inPhase phase.Opcode k m word = atOpcode k m word (lookedUp word Sent)
+inPhase phase.Opcode k m word = atOpcode k m word (lookedUp word Sent (k .dialect))
 inPhase (phase.Argument command left kept) k m word = toward command (left - 1) k m kept word
 inPhase (phase.Data end left) k m word =
-    quiet (await k (pick (k .on) (fed (k .tally .register) word (8 * min left 4)) (k .tally .register)) (awaited end (left - 4)))
+    quiet (await k (registered k (pick (k .on) (fed (k .tally .register) word (8 * min left 4)) (k .tally .register))) (awaited end (left - 4)))
     leaving loaded m (end - left) (dataBytes word left)
-inPhase (phase.Echo n) k m word = said (oneWord word) (await k (k .tally .register) (echoing (n - 1))) leaving m
+inPhase (phase.Echo n) k m word = said (oneWord word) (await k (k .tally) (echoing (n - 1))) leaving m
 
 -- the machine: a core, a memory and a word
 unfoldable pub wordStep : Core → List ℕ → ℕ → Outcome

@@ -1,4 +1,4 @@
--- The opening of a sent session: BOOTME once on the line of bytes, checksum off, register 0, awaiting the start unit.
+-- The opening of a sent session: BOOTME once on the line of bytes, checksum off, register and totals 0, awaiting the start unit.
 use Prim.Native.Nat.{ℕ}
 use mathlib.Core.Bool.{Bool, true, false, not}
 use mathlib.Core.List.{List, [], _∷_}
@@ -6,7 +6,10 @@ use lib.ListN.{replicate}
 use Rattle.words.specs.Choice.{pick}
 use Rattle.windows.specs.Map.{goodMap, keptOf, zeroWindow}
 use Rattle.windows.specs.declared.Window.{Window}
+use Rattle.script.specs.declared.Dialect.{Dialect}
+use Rattle.script.specs.declared.Dialect.the-variants.{Am17xx}
 use Rattle.script.specs.declared.Refusal.the-variants.{None, Map}
+use Rattle.totals.specs.Totals.{atOpening}
 use Rattle.sent.specs.Replies.{silence}
 use Rattle.sent.specs.declared.Bus.{Bus}
 use Rattle.sent.specs.declared.Bus.the-variants.{Bytes, Halves}
@@ -21,22 +24,23 @@ greeting Bytes = record { bytes = 0x42 ∷ 0x4F ∷ 0x4F ∷ 0x54 ∷ 0x4D ∷ 0
 greeting Halves = silence
 
 -- a session at the very start, or one that never opened
-abbrev pub atStart : List Window → Bool → Session
-atStart windows ended =
+abbrev pub atStart : Dialect → List Window → Bool → Session
+atStart dialect windows ended =
     record {
       core = record {
         windows = windows;
+        dialect = dialect;
         ended = ended;
         on = false;
         begun = false;
-        tally = record { register = 0 };
+        tally = record { register = 0; totals = atOpening };
         stage = record { phase = phase.Opcode };
       };
       line = record { started = false; have = 0; word = 0 };
     }
 
--- 1: a refused opening says nothing and gives an ended session, all else of it zero or off
-unfoldable pub openedBy : Bus → ℕ → List Window → Opened
-openedBy bus count windows =
-    pick (not (goodMap count windows)) (record { refusal = Map; reply = silence; session = atStart (replicate 8 zeroWindow) true })
-    (record { refusal = None; reply = greeting bus; session = atStart (keptOf count windows) false })
+-- 1: a refused opening says nothing and gives an ended AM17xx session, all else of it zero or off
+unfoldable pub openedBy : Bus → Dialect → ℕ → List Window → Opened
+openedBy bus dialect count windows =
+    pick (not (goodMap count windows)) (record { refusal = Map; reply = silence; session = atStart Am17xx (replicate 8 zeroWindow) true })
+    (record { refusal = None; reply = greeting bus; session = atStart dialect (keptOf count windows) false })

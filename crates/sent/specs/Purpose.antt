@@ -5,6 +5,7 @@ use mathlib.Core.Bool.{true, false}
 use mathlib.Core.List.{List}
 use Rattle.words.specs.Choice.{pick}
 use Rattle.script.specs.Opcodes.{lookedUp}
+use Rattle.script.specs.declared.Dialect.{Dialect}
 use Rattle.script.specs.declared.Found.{Found}
 use Rattle.script.specs.declared.Found.the-variants as found
 use Rattle.script.specs.declared.Mode.the-variants.{Sent}
@@ -23,16 +24,16 @@ opcodePurpose found.Retired = Refused refusal.Retired
 opcodePurpose (found.Known command words) = Command true command words noneKept 0
 
 -- a word, by the phase that awaits it
-abbrev pub purposeOf : Phase → ℕ → Purpose
-purposeOf phase.Opcode word = opcodePurpose (lookedUp word Sent)
-purposeOf (phase.Argument command left kept) word = Command false command (left - 1) kept word
-purposeOf (phase.Data end left) word = Data end left
-purposeOf (phase.Echo n) word = Echo n
+abbrev pub purposeOf : Phase → Dialect → ℕ → Purpose
+purposeOf phase.Opcode dialect word = opcodePurpose (lookedUp word Sent dialect)
+purposeOf (phase.Argument command left kept) dialect word = Command false command (left - 1) kept word
+purposeOf (phase.Data end left) dialect word = Data end left
+purposeOf (phase.Echo n) dialect word = Echo n
 
 -- a word taken for its purpose
 abbrev pub served : Purpose → Core → List ℕ → ℕ → Outcome
 served (Refused q) k m word = refused k q leaving m
 served (Command opens command left kept argument) k m word =
-    pick opens (opening word (toward command left (begun k) m kept argument)) (toward command left k m kept argument)
+    pick opens (opening word (toward command left (begun command k) m kept argument)) (toward command left k m kept argument)
 served (Data end left) k m word = inPhase (phase.Data end left) k m word
 served (Echo n) k m word = inPhase (phase.Echo n) k m word

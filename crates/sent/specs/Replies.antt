@@ -3,6 +3,8 @@ use Prim.Native.Nat.{ℕ, _+_, _*_, _/_, _%_, _^_, min}
 use mathlib.Core.List.{List, [], _∷_}
 use lib.ListN.{getD, take}
 use Rattle.words.specs.Bytes.{byte}
+use Rattle.script.specs.declared.Dialect.{Dialect}
+use Rattle.script.specs.declared.Dialect.the-variants.{Am17xx, Dm648}
 use Rattle.sent.specs.Bus.{unitBits, answerUnit}
 use Rattle.sent.specs.declared.Bus.{Bus}
 use Rattle.sent.specs.declared.Reply.{Reply}
@@ -31,6 +33,14 @@ wordThen v r =
 -- an opcode is acknowledged by itself with top byte 0x52
 unfoldable pub acknowledged : ℕ → ℕ
 acknowledged opcode = 0x52 * 2 ^ 24 + opcode % 2 ^ 24
+
+-- DONE, which a DM648 says on entering; an AM17xx says nothing
+abbrev pub doneWord : ℕ
+doneWord = 0x454E4F44
+
+abbrev pub farewell : Dialect → Reply
+farewell Am17xx = silence
+farewell Dm648 = oneWord doneWord
 
 -- the bytes of a reply
 abbrev pub sentBytes : Reply → List ℕ

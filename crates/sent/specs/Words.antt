@@ -24,7 +24,7 @@ keptAfter kept (w ∷ ws) = keptAfter (keeping kept w) ws
 
 -- a core that awaits so many argument words of a command
 abbrev pub asking : Core → Command → ℕ → Kept → Core
-asking k command left kept = await k (k .tally .register) (Argument command left kept)
+asking k command left kept = await k (k .tally) (Argument command left kept)
 
 -- a command with its argument words, done at the last of them
 unfoldable pub doneAtLast : Command → Core → List ℕ → Kept → ℕ → List ℕ → Outcome
@@ -40,10 +40,10 @@ doneWith opcode command k m (word ∷ rest) = doneAtLast command k m noneKept wo
 pub record ByTheTable : Type 0 where
   -- all of them: what the command does
   pub done : (k : Core) (m : List ℕ) (opcode : ℕ) (command : Command) (words : ℕ) (arguments : List ℕ)
-      → k .stage .phase ≡ Opcode → lookedUp opcode Sent ≡ Known command words → length arguments ≡ words
-      → afterWords (wordStep k m opcode) arguments ≡ doneWith opcode command (begun k) m arguments
+      → k .stage .phase ≡ Opcode → lookedUp opcode Sent (k .dialect) ≡ Known command words → length arguments ≡ words
+      → afterWords (wordStep k m opcode) arguments ≡ doneWith opcode command (begun command k) m arguments
   -- fewer: nothing but that the others are awaited
   pub waits : (k : Core) (m : List ℕ) (opcode : ℕ) (command : Command) (words : ℕ) (arguments : List ℕ) (left : ℕ)
-      → k .stage .phase ≡ Opcode → lookedUp opcode Sent ≡ Known command words → length arguments + suc left ≡ words
-      → (afterWords (wordStep k m opcode) arguments .answer .core ≡ asking (begun k) command (suc left) (keptAfter noneKept arguments))
+      → k .stage .phase ≡ Opcode → lookedUp opcode Sent (k .dialect) ≡ Known command words → length arguments + suc left ≡ words
+      → (afterWords (wordStep k m opcode) arguments .answer .core ≡ asking (begun command k) command (suc left) (keptAfter noneKept arguments))
       × (afterWords (wordStep k m opcode) arguments .memory ≡ m)

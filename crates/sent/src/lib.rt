@@ -10,12 +10,15 @@ ghost use Rattle.checksum.specs.Checksum.{fed, fedWords};
 ghost use Rattle.windows.specs.Map.{zeroWindow};
 ghost use Rattle.windows.specs.Window.{sumOf};
 ghost use Rattle.script.specs.Answers.{numberOf};
-ghost use Rattle.commands.specs.Commands.{loadJudged, loaded, closeDone};
+ghost use Rattle.totals.specs.declared.Totals.{Totals};
+ghost use Rattle.commands.specs.Commands.{loadJudged, loaded};
 ghost use Rattle.sent.specs.Bus.{unitBits, unitsInWord, startUnit, halvesOf, unitsFed, pushed};
 ghost use Rattle.sent.specs.Line.{plainly, gathered, carried, isStart, unitStep};
 ghost use Rattle.sent.specs.Machine.{
+  tallied,
   changed,
   await,
+  registered,
   stop,
   refused,
   said,
@@ -26,9 +29,13 @@ ghost use Rattle.sent.specs.Machine.{
   noneKept,
   keeping,
   awaited,
+  countedOn,
+  counting,
   loadBegun,
   dataBytes,
   echoing,
+  closeAddress,
+  closeJudged,
   performed,
   toward,
   begun,
@@ -38,14 +45,19 @@ ghost use Rattle.sent.specs.Machine.{
 };
 ghost use Rattle.sent.specs.Opening.{greeting, atStart, openedBy};
 ghost use Rattle.sent.specs.Purpose.{opcodePurpose, purposeOf, served};
-ghost use Rattle.sent.specs.Replies.{silence, startAnswer, oneWord, wordThen, acknowledged};
+ghost use Rattle.sent.specs.Replies.{silence, startAnswer, oneWord, wordThen, acknowledged, farewell};
 use commands::Done;
 use commands::Judged;
 use script::Command;
+use script::Dialect;
 use script::Event;
 use script::Found;
 use script::Mode;
 use script::Refusal;
+use totals::Bytes;
+use totals::Sections;
+use totals::Standing;
+use totals::Totals;
 use windows::Window;
 
 // A line by its unit of transfer: bytes, or halves of a word.
@@ -57,6 +69,7 @@ pub enum Bus {
 // What Start-Over takes back.
 pub struct Tally {
     pub register: u32,
+    pub totals: Totals,
 }
 
 // The last three argument words of a command that came before its last, the latest third.
@@ -88,9 +101,10 @@ pub struct Stage {
     pub phase: Phase,
 }
 
-// What a word may change: the windows stay. `begun` says that an opcode has been acknowledged.
+// What a word may change: the windows and the dialect stay. `begun` says that an opcode has been acknowledged.
 pub struct Core {
     pub windows: [Window; 8],
+    pub dialect: Dialect,
     pub ended: bool,
     pub on: bool,
     pub begun: bool,
@@ -152,18 +166,21 @@ impl Session {
 
     pub const START_HALF: u16 = 0x5853;
 
-    // A session from a map, and its greeting; refused it is ended and says nothing.
-    pub fn open(count: usize, windows: [Window; 8]) -> Opened
-        ensures { λ r. ⌜ r ≡ openedBy Bus.Bytes count windows ⌝ }
+    // DONE, which a DM648 says on entering.
+    pub const DONE: u32 = 0x454E_4F44;
+
+    // A session of a dialect from a map, and its greeting; refused it is ended and says nothing.
+    pub fn open(dialect: Dialect, count: usize, windows: [Window; 8]) -> Opened
+        ensures { λ r. ⌜ r ≡ openedBy Bus.Bytes dialect count windows ⌝ }
     {
-        open_on(Bus::Bytes, count, windows)
+        open_on(Bus::Bytes, dialect, count, windows)
     }
 
     // The same on the line of halves, which has no greeting.
-    pub fn open_halves(count: usize, windows: [Window; 8]) -> Opened
-        ensures { λ r. ⌜ r ≡ openedBy Bus.Halves count windows ⌝ }
+    pub fn open_halves(dialect: Dialect, count: usize, windows: [Window; 8]) -> Opened
+        ensures { λ r. ⌜ r ≡ openedBy Bus.Halves dialect count windows ⌝ }
     {
-        open_on(Bus::Halves, count, windows)
+        open_on(Bus::Halves, dialect, count, windows)
     }
 
     // One byte from the host.
@@ -228,9 +245,9 @@ fn unit_at(bus: Bus, fed: &[u8], i: usize) -> u32
     }
 }
 
-// A session on a line, from a map.
-fn open_on(bus: Bus, count: usize, windows: [Window; 8]) -> Opened
-    ensures { λ r. ⌜ r ≡ openedBy bus count windows ⌝ }
+// A session on a line that is itself given, of a dialect, from a map, and its greeting; refused it is ended and says nothing.
+pub fn open_on(bus: Bus, dialect: Dialect, count: usize, windows: [Window; 8]) -> Opened
+    ensures { λ r. ⌜ r ≡ openedBy bus dialect count windows ⌝ }
 {
     if !windows::is_good(count, windows) {
         return shut();
@@ -238,7 +255,7 @@ fn open_on(bus: Bus, count: usize, windows: [Window; 8]) -> Opened
     Opened {
         refusal: Refusal::None,
         reply: greet(bus),
-        session: begin(windows::kept(count, windows), false),
+        session: begin(dialect, windows::kept(count, windows), false),
     }
 }
 
@@ -273,16 +290,21 @@ fn take_unit(session: Session, memory: &mut [u8], bus: Bus, unit: u32) -> Answer
 }
 
 // A session at the very start, or one that never opened.
-fn begin(windows: [Window; 8], ended: bool) -> Session
-    ensures { λ r. ⌜ r ≡ atStart windows ended ⌝ }
+fn begin(dialect: Dialect, windows: [Window; 8], ended: bool) -> Session
+    ensures { λ r. ⌜ r ≡ atStart dialect windows ended ⌝ }
 {
-    let tally = Tally { register: 0 };
+    let totals = Totals::zero();
+    let tally = Tally {
+        register: 0,
+        totals,
+    };
     let stage = Stage {
         phase: Phase::Opcode,
     };
     Session {
         core: Core {
             windows,
+            dialect,
             ended,
             on: false,
             begun: false,
@@ -299,7 +321,7 @@ fn begin(windows: [Window; 8], ended: bool) -> Session
 
 // A refused opening.
 fn shut() -> Opened
-    ensures { λ r. ⌜ r ≡ record { refusal = Refusal.Map; reply = silence; session = atStart (replicate 8 zeroWindow) true } ⌝ }
+    ensures { λ r. ⌜ r ≡ record { refusal = Refusal.Map; reply = silence; session = atStart Dialect.Am17xx (replicate 8 zeroWindow) true } ⌝ }
 {
     let none = Window {
         first: 0,
@@ -309,7 +331,7 @@ fn shut() -> Opened
     Opened {
         refusal: Refusal::Map,
         reply: silent(),
-        session: begin([none; 8], true),
+        session: begin(Dialect::Am17xx, [none; 8], true),
     }
 }
 
@@ -521,11 +543,11 @@ fn carry(session: Session, taken: Taken) -> Answer
     }
 }
 
-// The core with another register, awaiting another word.
-fn moved(core: Core, register: u32, phase: Phase) -> Core
-    ensures { λ r. ⌜ r ≡ await core register phase ⌝ }
+// The core with another register and other totals, awaiting another word.
+fn moved(core: Core, register: u32, totals: Totals, phase: Phase) -> Core
+    ensures { λ r. ⌜ r ≡ await core (tallied register totals) phase ⌝ }
 {
-    let tally = Tally { register };
+    let tally = Tally { register, totals };
     let stage = Stage { phase };
     let mut next = core;
     next.tally = tally;
@@ -569,15 +591,15 @@ fn say(reply: Reply, core: Core) -> Taken
 
 // An argument word is taken, and another word awaited.
 fn ask(core: Core, phase: Phase) -> Taken
-    ensures { λ r. ⌜ r ≡ quiet (await core (core .tally .register) phase) ⌝ }
+    ensures { λ r. ⌜ r ≡ quiet (await core (core .tally) phase) ⌝ }
 {
     let tally = core.tally;
-    say(silent(), moved(core, tally.register, phase))
+    say(silent(), moved(core, tally.register, tally.totals, phase))
 }
 
-// The answer to a command that was judged and done.
-fn finish(core: Core, done: Done) -> Taken
-    ensures { λ r. ⌜ r ≡ after core done ⌝ }
+// The answer to a command that was judged and done, with the totals that it leaves.
+fn finish(core: Core, totals: Totals, done: Done) -> Taken
+    ensures { λ r. ⌜ r ≡ after core totals done ⌝ }
 {
     let refusal = done.refusal;
     let event = done.event;
@@ -586,19 +608,26 @@ fn finish(core: Core, done: Done) -> Taken
             refusal: Refusal::None,
             reply: silent(),
             event,
-            core: moved(core, done.register, Phase::Opcode),
+            core: moved(core, done.register, totals, Phase::Opcode),
         };
     }
     refuse(core, refusal)
 }
 
-// The core, begun where the word is an opcode.
-fn begun_by(core: Core, opens: bool) -> Core
-    ensures { λ r. ⌜ r ≡ pick opens (begun core) core ⌝ }
+// The core, begun where the word is an opcode, its totals turned as the command says.
+fn begun_by(core: Core, opens: bool, command: Command) -> Core
+    ensures { λ r. ⌜ r ≡ pick opens (begun command core) core ⌝ }
 {
     if opens {
+        let tally = core.tally;
+        let totals = tally.totals;
+        let turned = Tally {
+            register: tally.register,
+            totals: totals.turn(command),
+        };
         let mut next = core;
         next.begun = true;
+        next.tally = turned;
         return next;
     }
     core
@@ -647,18 +676,38 @@ fn end_of(windows: [Window; 8], place: usize, size: u32) -> usize
     place + (size as usize)
 }
 
+// A load or a fill as judged before, 18 where it would take a total past the largest.
+fn judge_count(core: Core, size: u32, judged: Judged) -> Judged
+    ensures { λ r. ⌜ r ≡ counting core size judged ⌝ }
+{
+    let dialect = core.dialect;
+    let tally = core.tally;
+    let totals = tally.totals;
+    commands::bar(judged, totals.would_pass(dialect, size), Refusal::Overflow)
+}
+
+// The totals with one more section of so many bytes.
+fn count_on(core: Core, size: u32) -> Totals
+    ensures { λ r. ⌜ r ≡ countedOn core size ⌝ }
+{
+    let dialect = core.dialect;
+    let tally = core.tally;
+    let totals = tally.totals;
+    totals.count(dialect, size)
+}
+
 // Load, at its size word.
 fn begin_load(core: Core, address: u32, size: u32) -> Taken
-    ensures { λ r. ⌜ r ≡ loadBegun core address size (loadJudged (core .windows) address size) ⌝ }
+    ensures { λ r. ⌜ r ≡ loadBegun core address size (counting core size (loadJudged (core .windows) address size)) ⌝ }
 {
     let windows = core.windows;
-    let judged = commands::judge_load(windows, address, size);
+    let judged = judge_count(core, size, commands::judge_load(windows, address, size));
     match judged {
         Judged::Granted(place) => {
             let tally = core.tally;
             let register = feed_head(core.on, tally.register, address, size);
             let phase = data_phase(end_of(windows, place, size), size);
-            say(silent(), moved(core, register, phase))
+            say(silent(), moved(core, register, count_on(core, size), phase))
         }
         Judged::Refused(refusal) => refuse(core, refusal),
     }
@@ -722,7 +771,7 @@ fn take_data(core: Core, memory: &mut [u8], end: usize, left: u32, word: u32) ->
     let tally = core.tally;
     let register = feed_data(core.on, tally.register, word, left);
     let phase = data_phase(end, left_after(left));
-    say(silent(), moved(core, register, phase))
+    say(silent(), moved(core, register, tally.totals, phase))
 }
 
 // Fill.
@@ -732,9 +781,14 @@ fn fill(core: Core, memory: &mut [u8], kept: Kept, pattern: u32) -> Taken
 {
     let windows = core.windows;
     let tally = core.tally;
+    let judged = judge_count(
+        core,
+        kept.second,
+        commands::judge_fill(windows, kept.first, kept.second, kept.third),
+    );
     let done = commands::fill(
-        windows,
         memory,
+        judged,
         core.on,
         tally.register,
         kept.first,
@@ -742,7 +796,7 @@ fn fill(core: Core, memory: &mut [u8], kept: Kept, pattern: u32) -> Taken
         kept.third,
         pattern,
     );
-    finish(core, done)
+    finish(core, count_on(core, kept.second), done)
 }
 
 // Boot Table.
@@ -752,23 +806,24 @@ fn boot_table(core: Core, memory: &mut [u8], kept: Kept, delay: u32) -> Taken
 {
     let windows = core.windows;
     let tally = core.tally;
+    let judged = commands::judge_setting(windows, kept.first, kept.second, kept.third);
     let done = commands::boot_table(
-        windows,
         memory,
+        judged,
         tally.register,
         kept.first,
-        kept.second,
         kept.third,
         delay,
     );
-    finish(core, done)
+    finish(core, tally.totals, done)
 }
 
 // Enable, Disable, Start-Over: the checksum switched or as it was, with a register.
 fn switch(core: Core, on: bool, register: u32) -> Taken
-    ensures { λ r. ⌜ r ≡ quiet (changed core (core .ended) on (core .begun) register Phase.Opcode) ⌝ }
+    ensures { λ r. ⌜ r ≡ quiet (changed core (core .ended) on (core .begun) (registered core register) Phase.Opcode) ⌝ }
 {
-    let mut next = moved(core, register, Phase::Opcode);
+    let tally = core.tally;
+    let mut next = moved(core, register, tally.totals, Phase::Opcode);
     next.on = on;
     say(silent(), next)
 }
@@ -778,22 +833,77 @@ fn request(core: Core) -> Taken
     ensures { λ r. ⌜ r ≡ performed Command.Request core [] noneKept 0 .answer ⌝ }
 {
     let tally = core.tally;
-    say(reply_word(tally.register), moved(core, 0, Phase::Opcode))
+    say(
+        reply_word(tally.register),
+        moved(core, 0, tally.totals, Phase::Opcode),
+    )
 }
 
-// Jump & Close: entered, the session is ended.
-fn jump_and_close(core: Core, address: u32) -> Taken
-    ensures { λ r. ⌜ r ≡ entered (after core (closeDone (core .windows) (core .tally .register) address)) ⌝ }
+// What is said on entering.
+fn last_reply(dialect: Dialect) -> Reply
+    ensures { λ r. ⌜ r ≡ farewell dialect ⌝ }
+{
+    match dialect {
+        Dialect::Am17xx => silent(),
+        Dialect::Dm648 => reply_word(Session::DONE),
+    }
+}
+
+// Entered: the session is ended, and a DM648 says DONE.
+fn enter(taken: Taken) -> Taken
+    ensures { λ r. ⌜ r ≡ entered taken ⌝ }
+{
+    let refusal = taken.refusal;
+    if refusal.number() == 0 {
+        let core = taken.core;
+        let dialect = core.dialect;
+        let mut last = taken;
+        last.reply = last_reply(dialect);
+        last.core = stopped(core);
+        return last;
+    }
+    taken
+}
+
+// The entry address among the words of Jump & Close.
+fn entry_of(dialect: Dialect, kept: Kept, word: u32) -> u32
+    ensures { λ r. ⌜ r ≡ closeAddress dialect kept word ⌝ }
+{
+    match dialect {
+        Dialect::Am17xx => word,
+        Dialect::Dm648 => kept.second,
+    }
+}
+
+// Its judgement: 10, then 17.
+fn judge_close(core: Core, kept: Kept, word: u32) -> Judged
+    ensures { λ r. ⌜ r ≡ closeJudged core kept word ⌝ }
 {
     let windows = core.windows;
+    let dialect = core.dialect;
     let tally = core.tally;
-    let mut last = finish(
-        core,
-        commands::jump_and_close(windows, tally.register, address),
-    );
-    let reached = last.core;
-    last.core = stopped(reached);
-    last
+    let totals = tally.totals;
+    let named = Standing {
+        sections: Sections(kept.third),
+        bytes: Bytes(word),
+    };
+    commands::bar(
+        commands::judge_entry(windows, entry_of(dialect, kept, word)),
+        totals.differ(dialect, named),
+        Refusal::Totals,
+    )
+}
+
+// Jump & Close.
+fn jump_and_close(core: Core, kept: Kept, word: u32) -> Taken
+    ensures { λ r. ⌜ r ≡ performed Command.JumpAndClose core [] kept word .answer ⌝ }
+{
+    let dialect = core.dialect;
+    let tally = core.tally;
+    let address = entry_of(dialect, kept, word);
+    let judged = judge_close(core, kept, word);
+    let done = commands::jump_and_close(judged, tally.register, address);
+    enter(finish(core, tally.totals, done))
 }
 
 // What is awaited while words to echo are left.
@@ -808,12 +918,12 @@ fn ping_phase(left: u32) -> Phase
 
 // Ping's count and its words are echoed.
 fn echo(core: Core, word: u32, left: u32) -> Taken
-    ensures { λ r. ⌜ r ≡ said (oneWord word) (await core (core .tally .register) (echoing left)) ⌝ }
+    ensures { λ r. ⌜ r ≡ said (oneWord word) (await core (core .tally) (echoing left)) ⌝ }
 {
     let tally = core.tally;
     say(
         reply_word(word),
-        moved(core, tally.register, ping_phase(left)),
+        moved(core, tally.register, tally.totals, ping_phase(left)),
     )
 }
 
@@ -833,7 +943,7 @@ fn perform(core: Core, memory: &mut [u8], command: Command, kept: Kept, word: u3
         Command::Disable => switch(core, false, register),
         Command::Request => request(core),
         Command::StartOver => switch(core, on, 0),
-        Command::JumpAndClose => jump_and_close(core, word),
+        Command::JumpAndClose => jump_and_close(core, kept, word),
         Command::Ping => echo(core, word, word),
         Command::SequentialRead => refuse(core, Refusal::Opcode),
     }
@@ -894,11 +1004,11 @@ fn less_one(left: u32) -> u32
 }
 
 // What a word is for, by the phase that awaits it.
-fn purpose_of(phase: Phase, word: u32) -> Purpose
-    ensures { λ r. ⌜ r ≡ purposeOf phase word ⌝ }
+fn purpose_of(phase: Phase, dialect: Dialect, word: u32) -> Purpose
+    ensures { λ r. ⌜ r ≡ purposeOf phase dialect word ⌝ }
 {
     match phase {
-        Phase::Opcode => opcode_purpose(script::look_up(word, Mode::Sent)),
+        Phase::Opcode => opcode_purpose(script::look_up(word, Mode::Sent, dialect)),
         Phase::Argument(command, left, kept) => {
             Purpose::Command(false, command, less_one(left), kept, word)
         }
@@ -921,7 +1031,14 @@ fn take_command(
     ensures { λ r. ⌜ r ≡ served (Purpose.Command opens command left kept argument) core (now (memory .entry)) word .answer ⌝ }
     ensures { λ _. ⌜ now (memory .exit) ≡ served (Purpose.Command opens command left kept argument) core (now (memory .entry)) word .memory ⌝ }
 {
-    let taken = advance(begun_by(core, opens), memory, command, left, kept, argument);
+    let taken = advance(
+        begun_by(core, opens, command),
+        memory,
+        command,
+        left,
+        kept,
+        argument,
+    );
     if opens {
         return acknowledge(taken, word);
     }
@@ -933,9 +1050,10 @@ pub fn take_word(core: Core, memory: &mut [u8], word: u32) -> Taken
     ensures { λ r. ⌜ r ≡ wordStep core (now (memory .entry)) word .answer ⌝ }
     ensures { λ _. ⌜ now (memory .exit) ≡ wordStep core (now (memory .entry)) word .memory ⌝ }
 {
+    let dialect = core.dialect;
     let stage = core.stage;
     let phase = stage.phase;
-    let purpose = purpose_of(phase, word);
+    let purpose = purpose_of(phase, dialect, word);
     match purpose {
         Purpose::Refused(refusal) => refuse(core, refusal),
         Purpose::Command(opens, command, left, kept, argument) => take_command(

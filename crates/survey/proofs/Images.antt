@@ -1,4 +1,4 @@
--- What an opened image comes to: its opening is refused, or it is run. Each case settles the tests of the definition.
+-- What an opened Am17xx image comes to: its opening is refused, or it is run. Each case settles the tests of the definition.
 use Prim.Native.Nat.{ℕ}
 use mathlib.Core.List.{List}
 use mathlib.Core.Logic.{_≢_}
@@ -9,6 +9,7 @@ use Rattle.words.specs.Bits.{join}
 use Rattle.words.specs.Bytes.{number, bytesAt, wordAt}
 use Rattle.words.specs.Choice.{pick}
 use Rattle.script.specs.Answers.{numberOf}
+use Rattle.script.specs.declared.Dialect.the-variants.{Am17xx}
 use Rattle.flash.specs.Sessions.{Outcome}
 use Rattle.runs.specs.Run.{runOf}
 use Rattle.checking.specs.Report.{opened, lastAnswer, reportOf}
@@ -17,15 +18,15 @@ use Rattle.survey.specs.declared.Outcome.the-variants.{Refused}
 
 module _ (image : List ℕ) where
   -- a refused opening runs nothing, and the memory stays cleared
-  pub opening-refused : numberOf (opened image .refusal) ≢ 0 → imageOf image ≡ record { outcome = Refused; word = 0 }
+  pub opening-refused : numberOf (opened Am17xx image .refusal) ≢ 0 → imageOf image ≡ record { outcome = Refused; word = 0 }
   unfolding pick join number bytesAt wordAt lastAnswer reportOf memoryLeft imageOf
   opening-refused e = rw (ne-eqb _ _ e, ne-eqb _ _ e)
 
   -- an accepted one is run
   abbrev ran : Outcome
-  ran = runOf (opened image .session) cleared image
+  ran = runOf (opened Am17xx image .session) cleared image
 
-  pub opening-accepted : numberOf (opened image .refusal) ≡ 0
+  pub opening-accepted : numberOf (opened Am17xx image .refusal) ≡ 0
       → imageOf image ≡ record { outcome = ended (eqb (numberOf (ran .answer .refusal)) 0); word = wordAt (ran .memory) 0 }
   unfolding pick lastAnswer reportOf memoryLeft imageOf
   opening-accepted e = rw (eq-eqb _ _ e)

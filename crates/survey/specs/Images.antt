@@ -9,6 +9,7 @@ use lib.ListN.{replicate}
 use Rattle.words.specs.Bytes.{wordAt}
 use Rattle.words.specs.Choice.{pick}
 use Rattle.script.specs.Answers.{numberOf}
+use Rattle.script.specs.declared.Dialect.the-variants.{Am17xx}
 use Rattle.runs.specs.Run.{runOf}
 use Rattle.checking.specs.Report.{opened, reportOf}
 use Rattle.survey.specs.declared.Image.{Image}
@@ -21,16 +22,16 @@ cleared = replicate 4096 0
 
 -- what the check program's run of an image leaves of cleared memory; a refused opening runs nothing
 unfoldable pub memoryLeft : List ℕ → List ℕ
-memoryLeft image = pick (eqb (numberOf (opened image .refusal)) 0) (runOf (opened image .session) cleared image .memory) cleared
+memoryLeft image = pick (eqb (numberOf (opened Am17xx image .refusal)) 0) (runOf (opened Am17xx image .session) cleared image .memory) cleared
 
--- the outcome of an opened image
+-- the outcome of an opened Am17xx image
 abbrev pub ended : Bool → Outcome
 ended true = Entered
 ended false = Refused
 
--- an opened image: it entered where the check program says so, and its option word is the one at 0x80000000, the window's first
+-- an opened Am17xx image: it entered where the check program says so, and its option word is the one at 0x80000000, the window's first
 unfoldable pub imageOf : List ℕ → Image
-imageOf image = record { outcome = ended (reportOf image .entered); word = wordAt (memoryLeft image) 0 }
+imageOf image = record { outcome = ended (reportOf Am17xx image .entered); word = wordAt (memoryLeft image) 0 }
 
 -- a name that can't be opened
 abbrev pub absent : Image

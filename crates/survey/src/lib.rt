@@ -2,6 +2,7 @@
 ghost use mathlib.Core.Path.{_≡_};
 ghost use Rattle.survey.specs.Images.{ended, absent, imageOf, isOpened, setOf, unlike};
 ghost use Rattle.survey.specs.Survey.{begun, isFull, enteredBy, latest, lineOf, including, totalsOf};
+use script::Dialect;
 
 pub enum Outcome {
     Entered,
@@ -51,7 +52,7 @@ impl Image {
     pub fn of(bytes: &[u8]) -> Image
         ensures { λ r. ⌜ r ≡ imageOf (now (bytes .entry)) ⌝ }
     {
-        let opened = checking::open(bytes);
+        let opened = checking::open(Dialect::Am17xx, bytes);
         let refusal = opened.refusal;
         if refusal.number() != 0 {
             return Image {

@@ -3,6 +3,7 @@ use crate::ends;
 use crate::text;
 use flash::Called;
 use flash::Session;
+use script::Dialect;
 use script::Event;
 use windows::Window;
 use words::Unit;
@@ -112,9 +113,9 @@ pub fn one_window(first: u32) -> [Window; 8] {
 }
 
 // The opening's answer as a call's.
-fn opening(setting: Setting, image: &[u8]) -> Called {
+fn opening(dialect: Dialect, setting: Setting, image: &[u8]) -> Called {
     let windows = one_window(setting.first);
-    let opened = Session::open(1, windows, image, setting.limit);
+    let opened = Session::open(dialect, 1, windows, image, setting.limit);
     let refusal = opened.refusal;
     let session = opened.session;
     Called {
@@ -151,7 +152,7 @@ fn show_flips(setting: Setting) {
 }
 
 // The six lines of 01's check program.
-fn show_end(last: Called) {
+pub fn show_end(last: Called) {
     let refusal = last.refusal;
     let event = last.event;
     ends::show_outcome(event.kind());
@@ -163,21 +164,32 @@ fn show_end(last: Called) {
 }
 
 // Opens and calls, and shows requests, end and memory.
-fn run_in(setting: Setting, memory: &mut [u8], image: &mut [u8]) {
+fn run_in(dialect: Dialect, setting: Setting, memory: &mut [u8], image: &mut [u8]) {
     misread_both(image, setting, 0);
-    let begun = opening(setting, image);
+    let begun = opening(dialect, setting, image);
     misread_both(image, setting, 0);
     let last = play(setting, begun, memory, image);
     show_end(last);
     ends::show_memory(setting.first, setting.background, setting.shown, memory);
 }
 
-// One block of the transcript.
+// One block of the transcript, as AM17xx.
 pub fn run(image_name: &[u8], case_name: &[u8], setting: Setting, image: &mut [u8]) {
+    run_as(Dialect::Am17xx, image_name, case_name, setting, image);
+}
+
+// One block of the transcript, in a dialect.
+pub fn run_as(
+    dialect: Dialect,
+    image_name: &[u8],
+    case_name: &[u8],
+    setting: Setting,
+    image: &mut [u8],
+) {
     text::text_line(b"image=", image_name);
     text::text_line(b"case=", case_name);
     text::number_line(b"limit=", setting.limit as u64);
     show_flips(setting);
     let mut memory = [setting.background; 4096];
-    run_in(setting, &mut memory, image);
+    run_in(dialect, setting, &mut memory, image);
 }

@@ -34,7 +34,7 @@ returns c =
     (c .report-fetched .ensures ∙ ap fetchedReport (led .0) ∙ sym (chosen _ _ _ (c .before .if1 .taken)), led .1)
 
 report-requires : tie.Need-report-requires
-report-requires c κs = rw (c .before .before .before .run-from .ensures .0, c .before .before .before .before .before .«open» .ensures) (ran-at _ _ _ _ _)
+report-requires c κs = rw (c .before .before .before .run-from .ensures .0, c .before .before .before .before .before .«open» .ensures) (ran-at _ _ _ _ _ _)
 
 same-length-2 : tie.Need-same-length-2
 same-length-2 c = search needs

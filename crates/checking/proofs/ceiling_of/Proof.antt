@@ -1,6 +1,6 @@
 -- `checking::ceiling_of` meets its contract: an image is at most 65,536 bytes long, so that the product fits.
 use borrow.Author.Needs.{needs}
-use Prim.Native.Nat.{_+_, _*_, _/_}
+use Prim.Native.Nat.{_+_, _/_}
 use mathlib.Core.Path.{sym, _∙_}
 use native.Mathlib.Nat.{mul-le-mul}
 use native.Mathlib.Omega.{arith}

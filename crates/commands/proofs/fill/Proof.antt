@@ -1,14 +1,11 @@
--- `commands::fill` meets its contract: the type's unit is found, the range judged and filled, and the answer is the definition's.
+-- `commands::fill` meets its contract: the type's unit is found, the range filled where it is granted, and the answer is the definition's.
 use borrow.Author.Needs.{needs}
-use Rattle.commands.specs.Commands.{fillJudged, fillDone, fillMemory}
+use Rattle.commands.specs.Commands.{fillDone, fillMemory}
 use Rattle.commands.proofs.fill.Statement.{statement}
 use Rattle.commands.proofs.fill.Tie as tie
 
 unit-of-requires : tie.Need-unit-of-requires
 unit-of-requires c κs = search needs
-
-judge-fill-requires : tie.Need-judge-fill-requires
-judge-fill-requires c κs = search needs
 
 fill-range-requires : tie.Need-fill-range-requires
 fill-range-requires c κs = search needs
@@ -23,18 +20,17 @@ same-length : tie.Need-same-length
 same-length c = search needs
 
 returns : tie.Need-returns
-unfolding fillJudged fillDone fillMemory
-returns c =
-    let judged = c .before .before .before .before .before .before .judge-fill .ensures in
-    let unit = c .before .before .before .before .before .before .before .unit-of .ensures in
-    (rw (c .answer .ensures, c .before .feed-fill .ensures, judged, unit), rw (c .before .before .before .before .fill-range .ensures, judged, unit))
+unfolding fillDone fillMemory
+returns c = (
+  rw (c .answer .ensures, c .before .feed-fill .ensures),
+  rw (c .before .before .before .before .fill-range .ensures, c .before .before .before .before .before .unit-of .ensures),
+)
 
 pub fill-spec : {M : Type 1} → statement M
 fill-spec =
     tie.close
     (tie.spec
     unit-of-requires
-    judge-fill-requires
     fill-range-requires
     feed-fill-requires
     answer-requires

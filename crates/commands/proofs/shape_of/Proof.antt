@@ -1,6 +1,6 @@
 -- `commands::shape_of` meets its contract: the top byte is tested first, then the type counts.
 use borrow.Author.Needs.{needs}
-use mathlib.Core.Path.{sym, ap, _∙_}
+use mathlib.Core.Path.{sym, _∙_}
 use Rattle.commands.proofs.Shapes.{shape-high, shape-typed}
 use Rattle.commands.proofs.shape_of.Statement.{statement}
 use Rattle.commands.proofs.shape_of.Tie as tie

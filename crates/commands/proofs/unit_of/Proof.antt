@@ -1,5 +1,4 @@
 -- `commands::unit_of` meets its contract: each arm is one test of the definition.
-use borrow.Author.Needs.{needs}
 use mathlib.Core.Path.{sym}
 use native.Mathlib.Omega.{arith}
 use Rattle.commands.proofs.Shapes.{unit-one, unit-two, unit-four, unit-other}

@@ -1,6 +1,5 @@
 -- `commands::widened` meets its contract: each product is the word of four, two or one copies of the low unit.
 use borrow.Author.Needs.{needs}
-use mathlib.Core.Path.{_≡_}
 use native.Mathlib.Omega.{arith}
 use lib.Dec.{lit<}
 use Rattle.words.specs.Bits.{join}

@@ -19,6 +19,9 @@ argument-word-requires-3 c κs = search needs
 argument-word-requires-4 : tie.Need-argument-word-requires-4
 argument-word-requires-4 c κs = search needs
 
+judge-setting-requires : tie.Need-judge-setting-requires
+judge-setting-requires c κs = search needs
+
 boot-table-requires : tie.Need-boot-table-requires
 boot-table-requires c κs = search needs
 
@@ -29,12 +32,11 @@ same-length : tie.Need-same-length
 same-length c = search needs
 
 returns : tie.Need-returns
-returns c =
-    let a = c .before .before .before .before .before .before .before .before .before .before .before .before .args in
-    let read = setting-read (a .session) (now (a .memory)) (now (a .image))
-    (c .before .before .before .before .before .before .before .before .before .argument-word .ensures) (c .before .before .before .before .before .before .before .before .argument-word2 .ensures) (c .before .before .before .before .before .before .before .argument-word3 .ensures) (c .before .before .before .before .before .before .argument-word4 .ensures) in (
-      rw (c .finish .ensures, c .before .before .before .boot-table .ensures .0) (ap (λ (o : Outcome). o .answer) read),
-      c .before .before .before .boot-table .ensures .1 ∙ ap (λ (o : Outcome). o .memory) read,
+returns c = let a = c .before .before .before .before .before .before .before .before .before .before .before .before .before .before .args in
+    let read = setting-read (a .session) (now (a .memory)) (now (a .image)) (c .before .before .before .before .before .before .before .before .before .before .before .argument-word .ensures) (c .before .before .before .before .before .before .before .before .before .before .argument-word2 .ensures)
+    (c .before .before .before .before .before .before .before .before .before .argument-word3 .ensures) (c .before .before .before .before .before .before .before .before .argument-word4 .ensures) (c .before .before .before .before .before .before .judge-setting .ensures) in (
+      rw (c .finish .ensures, c .before .before .before .before .boot-table .ensures .0) (ap (λ (o : Outcome). o .answer) read),
+      c .before .before .before .before .boot-table .ensures .1 ∙ ap (λ (o : Outcome). o .memory) read,
     )
 
 pub boot-table-spec : {M : Type 1} → statement M
@@ -45,6 +47,7 @@ boot-table-spec =
     argument-word-requires-2
     argument-word-requires-3
     argument-word-requires-4
+    judge-setting-requires
     boot-table-requires
     finish-requires
     same-length

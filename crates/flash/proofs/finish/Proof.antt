@@ -10,11 +10,14 @@ use Rattle.flash.proofs.finish.Tie as tie
 number-requires : tie.Need-number-requires
 number-requires c κs = search needs
 
-mul-moved : tie.Need-mul-moved
-mul-moved c = search needs
+mul-offset : tie.Need-mul-offset
+mul-offset c = search needs
 
-add-moved : tie.Need-add-moved
-add-moved c = search needs
+add-offset : tie.Need-add-offset
+add-offset c = search needs
+
+with-totals-requires : tie.Need-with-totals-requires
+with-totals-requires c κs = search needs
 
 moved-requires : tie.Need-moved-requires
 moved-requires c κs = search needs
@@ -24,9 +27,8 @@ proceed-requires c κs = search needs
 
 returns : tie.Need-returns
 unfolding after
-returns c =
-    rw (c .proceed .ensures, c .before .moved .ensures)
-    (sym (chosen _ _ _ (eq-eqb _ _ (sym (c .before .before .before .before .number .ensures) ∙ c .before .before .before .if1 .taken))))
+returns c = rw (c .proceed .ensures, c .before .moved .ensures, c .before .before .with-totals .ensures)
+    (sym (chosen _ _ _ (eq-eqb _ _ (sym (c .before .before .before .before .before .number .ensures) ∙ c .before .before .before .before .if1 .taken))))
 
 halt-requires : tie.Need-halt-requires
 halt-requires c κs = search needs
@@ -40,8 +42,9 @@ finish-spec =
     tie.close
     (tie.spec
     number-requires
-    mul-moved
-    add-moved
+    mul-offset
+    add-offset
+    with-totals-requires
     moved-requires
     proceed-requires
     returns

@@ -72,6 +72,9 @@ enum-told-8 c = search needs
 argument-word-requires-3 : tie.Need-argument-word-requires-3
 argument-word-requires-3 c κs = search needs
 
+named-at-requires : tie.Need-named-at-requires
+named-at-requires c κs = search needs
+
 jump-and-close-requires : tie.Need-jump-and-close-requires
 jump-and-close-requires c κs = search needs
 
@@ -140,9 +143,9 @@ returns-7 c =
 
 returns-8 : tie.Need-returns-8
 returns-8 c =
-    let a = c .before .before .before .before .before .before .args in
-    let known = c .before .before .enum-told8 .given .1 in
-    (rw (c .before .argument-word3 .ensures) at (c .jump-and-close .ensures) ∙ known-answer (a .session) (now (a .memory)) (now (a .image)) known, known-memory (a .session) (now (a .memory)) (now (a .image)) known)
+    let a = c .before .before .before .before .before .before .before .args in
+    let known = c .before .before .before .enum-told8 .given .1 in
+    (rw (c .before .named-at .ensures, c .before .before .argument-word3 .ensures) at (c .jump-and-close .ensures) ∙ known-answer (a .session) (now (a .memory)) (now (a .image)) known, known-memory (a .session) (now (a .memory)) (now (a .image)) known)
 
 returns-9 : tie.Need-returns-9
 returns-9 c =
@@ -178,6 +181,7 @@ perform-spec =
     halt-requires
     enum-told-8
     argument-word-requires-3
+    named-at-requires
     jump-and-close-requires
     enum-told-9
     halt-requires-2

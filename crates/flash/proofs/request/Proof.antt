@@ -7,6 +7,12 @@ use Rattle.flash.specs.Step.{requested}
 use Rattle.flash.proofs.request.Statement.{statement}
 use Rattle.flash.proofs.request.Tie as tie
 
+mark-requires : tie.Need-mark-requires
+mark-requires c κs = search needs
+
+with-totals-requires : tie.Need-with-totals-requires
+with-totals-requires c κs = search needs
+
 add-moved : tie.Need-add-moved
 add-moved c = search needs
 
@@ -18,7 +24,8 @@ proceed-requires c κs = search needs
 
 returns : tie.Need-returns
 unfolding requested
-returns c = rw (c .proceed .ensures, c .before .moved .ensures) (sym (chosen _ _ _ (eq-eqb _ _ (c .before .before .before .if1 .taken))))
+returns c = rw (c .proceed .ensures, c .before .moved .ensures, c .before .before .before .with-totals .ensures, c .before .before .before .before .mark .ensures)
+    (sym (chosen _ _ _ (eq-eqb _ _ (c .before .before .before .before .before .before .if1 .taken))))
 
 moved-requires-2 : tie.Need-moved-requires-2
 moved-requires-2 c κs = search needs
@@ -28,8 +35,7 @@ halt-requires c κs = search needs
 
 returns-2 : tie.Need-returns-2
 unfolding requested
-returns-2 c =
-    rw (c .halt .ensures, c .before .moved2 .ensures)
+returns-2 c = rw (c .halt .ensures, c .before .moved2 .ensures)
     (sym (passed _ _ _ (ne-eqb _ _ (c .before .before .before .before .if1 .left)) ∙ chosen _ _ _ (le-leb _ _ (c .before .before .if2 .taken))))
 
 retry-requires : tie.Need-retry-requires
@@ -43,6 +49,8 @@ pub request-spec : {M : Type 1} → statement M
 request-spec =
     tie.close
     (tie.spec
+    mark-requires
+    with-totals-requires
     add-moved
     moved-requires
     proceed-requires

@@ -13,10 +13,10 @@ use Rattle.script.proofs.look_up.Statement.{statement}
 use Rattle.script.proofs.look_up.Tie as tie
 
 abbrev Inv-loop : tie.InvT-loop
-Inv-loop opcode mode table found₀ i₀ found i = (i ≤ 11) × (found ≡ foundIn (drop i rows) opcode mode)
+Inv-loop opcode mode dialect table found₀ i₀ found i = (i ≤ 12) × (found ≡ foundIn (drop i rows) opcode mode dialect)
 
 abbrev μ-loop : tie.MeasureT-loop
-μ-loop opcode mode table found₀ i₀ found i = i
+μ-loop opcode mode dialect table found₀ i₀ found i = i
 
 returns : tie.Need-returns Inv-loop μ-loop
 unfolding lookedUp
@@ -50,8 +50,8 @@ loop-again c =
     let again : i ≡ i - 1 + 1 = omega arith in (
       omega arith,
       c .row-first .ensures
-          ∙ ap (pick _ _) (inv .1 ∙ ap (λ (k : ℕ). foundIn (drop k rows) (a .opcode) (a .mode)) again)
-          ∙ sym (found-from rows _ _ (i - 1) _ (omega arith)),
+          ∙ ap (pick _ _) (inv .1 ∙ ap (λ (k : ℕ). foundIn (drop k rows) (a .opcode) (a .mode) (a .dialect)) again)
+          ∙ sym (found-from rows _ _ _ (i - 1) _ (omega arith)),
     )
 
 returns-2 : tie.Need-returns-2 Inv-loop μ-loop

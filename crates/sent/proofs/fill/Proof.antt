@@ -3,8 +3,17 @@ use borrow.Author.Needs.{needs}
 use Rattle.sent.proofs.fill.Statement.{statement}
 use Rattle.sent.proofs.fill.Tie as tie
 
+judge-fill-requires : tie.Need-judge-fill-requires
+judge-fill-requires c κs = search needs
+
+judge-count-requires : tie.Need-judge-count-requires
+judge-count-requires c κs = search needs
+
 fill-requires : tie.Need-fill-requires
 fill-requires c κs = search needs
+
+count-on-requires : tie.Need-count-on-requires
+count-on-requires c κs = search needs
 
 finish-requires : tie.Need-finish-requires
 finish-requires c κs = search needs
@@ -13,7 +22,12 @@ same-length : tie.Need-same-length
 same-length c = search needs
 
 returns : tie.Need-returns
-returns c = (rw (c .before .before .before .fill .ensures .0) at (c .finish .ensures), c .before .before .before .fill .ensures .1)
+returns c =
+    let judged = rw (c .before .before .before .before .before .before .before .judge-fill .ensures) at (c .before .before .before .before .before .before .judge-count .ensures) in
+    let done = rw judged at (c .before .before .before .before .fill .ensures) in
+    (rw (done .0, c .before .count-on .ensures) at (c .finish .ensures), done .1)
 
 pub fill-spec : {M : Type 1} → statement M
-fill-spec = tie.close (tie.spec fill-requires finish-requires same-length returns)
+fill-spec =
+    tie.close
+    (tie.spec judge-fill-requires judge-count-requires fill-requires count-on-requires finish-requires same-length returns)

@@ -96,7 +96,7 @@ returns-5 c =
     let lent = c .before .before .before .before .before .before .before .before .before .before .before .if2 .left ∙ c .before .before .before .before .before .before .before .before .before .before .before .before .sum .ensures in
     let sound = sym (c .before .before .before .before .before .before .before .before .before .is-image .ensures) ∙ not-false _ (c .before .before .before .before .before .before .before .before .if3 .left) in
     let case = call-row (a .self) (now (a .memory)) (now (a .image)) (c .before .before .before .before .before .before .before .before .before .before .before .before .before .before .if1 .left) lent sound (c .before .before .before .before .before .before .if4 .left) in
-    let found = c .before .before .before .before .look-up .ensures ∙ ap (λ (w : ℕ). lookedUp w Flash) (c .before .before .before .before .before .word-at .ensures) in
+    let found = c .before .before .before .before .look-up .ensures ∙ ap (λ (w : ℕ). lookedUp w Flash (a .self .dialect)) (c .before .before .before .before .before .word-at .ensures) in
     (told case (rw found at (c .before .before .at-row .ensures .0)), left-in case (rw found at (c .before .before .at-row .ensures .1)))
 
 pub step-spec : {M : Type 1} → statement M

@@ -1,9 +1,8 @@
--- `bench::ais_half_session` meets its contract: the session from the opening, which has gathered nothing yet.
+-- `bench::session_on` meets its contract: the session from the opening, which has gathered nothing yet.
 use borrow.Author.Needs.{needs}
-use Rattle.sent.specs.declared.Bus.the-variants.{Halves}
 use Rattle.bench.proofs.Fitting.{opened-idle}
-use Rattle.bench.proofs.ais_half_session.Statement.{statement}
-use Rattle.bench.proofs.ais_half_session.Tie as tie
+use Rattle.bench.proofs.session_on.Statement.{statement}
+use Rattle.bench.proofs.session_on.Tie as tie
 
 count-of-requires : tie.Need-count-of-requires
 count-of-requires c κs = search needs
@@ -11,11 +10,11 @@ count-of-requires c κs = search needs
 windows-of-requires : tie.Need-windows-of-requires
 windows-of-requires c κs = search needs
 
-open-halves-requires : tie.Need-open-halves-requires
-open-halves-requires c κs = search needs
+open-on-requires : tie.Need-open-on-requires
+open-on-requires c κs = search needs
 
 session-from-requires : tie.Need-session-from-requires
-session-from-requires c κs = rw (c .before .before .open-halves .ensures) (opened-idle Halves _ _)
+session-from-requires c κs = rw (c .before .before .open-on .ensures) (opened-idle _ _ _ _)
 
 same-length : tie.Need-same-length
 same-length c = search needs
@@ -28,15 +27,15 @@ returns c =
     let ran = c .before .before .before .before in
     let opened = ran .before .before .before in
     let read = opened .before in
-    rw (opened .open-halves .ensures, read .windows-of .ensures, read .before .count-of .ensures) at (ran .session-from .ensures)
+    rw (opened .open-on .ensures, read .windows-of .ensures, read .before .count-of .ensures) at (ran .session-from .ensures)
 
-pub ais-half-session-spec : {M : Type 1} → statement M
-ais-half-session-spec =
+pub session-on-spec : {M : Type 1} → statement M
+session-on-spec =
     tie.close
     (tie.spec
     count-of-requires
     windows-of-requires
-    open-halves-requires
+    open-on-requires
     session-from-requires
     same-length
     same-length-2

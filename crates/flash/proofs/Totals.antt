@@ -1,0 +1,265 @@
+-- The totals since an opening, by the law of a call: a call that goes forward counts a load or a fill in whole numbers and nothing else, one that goes back
+-- counts a retry, and one that is refused keeps them. In AM17xx each part of the rules gives the same, whatever the totals are.
+use Prim.Native.Nat.{ℕ, _+_, _≤_}
+use mathlib.Core.Bool.{Bool, true, false}
+use mathlib.Core.List.{List, [], _∷_}
+use mathlib.Core.Path.{_≡_, refl, sym, ap, ap₂, subst, _∙_}
+use native.Mathlib.Omega.{arith}
+use lib.ListN.{length}
+use borrow.Author.Tests.{eq-eqb, ne-eqb}
+use Rattle.words.specs.Bytes.{wordAt}
+use Rattle.words.specs.Choice.{pick}
+use Rattle.words.proofs.Choice.{chosen, passed, of-choice}
+use Rattle.windows.specs.declared.Window.{Window}
+use Rattle.script.specs.Answers.{numberOf, kindOf}
+use Rattle.script.specs.Opcodes.{lookedUp}
+use Rattle.script.specs.declared.Command.{Command}
+use Rattle.script.specs.declared.Command.the-variants as command
+use Rattle.script.specs.declared.Dialect.{Dialect}
+use Rattle.script.specs.declared.Dialect.the-variants.{Am17xx, Dm648}
+use Rattle.script.specs.declared.Found.{Found}
+use Rattle.script.specs.declared.Found.the-variants.{Known, Retired, Unknown}
+use Rattle.script.specs.declared.Mode.the-variants.{Flash}
+use Rattle.totals.specs.Agreement.{Happening, section, enable, passed as marks, retried, other, inFlash, plus}
+use Rattle.totals.specs.Totals.{atOpening, wouldPass, differs}
+use Rattle.totals.specs.declared.Standing.{Standing}
+use Rattle.totals.specs.declared.Totals.{Totals}
+use Rattle.totals.proofs.Laws.{names-them, plus-none, plus-more, plus-one}
+use Rattle.commands.specs.Commands.{loadJudged, soughtFrom}
+use Rattle.commands.specs.declared.Done.{Done}
+use Rattle.commands.specs.declared.Judged.{Judged}
+use Rattle.commands.specs.declared.Judged.the-variants.{Granted, Refused}
+use Rattle.commands.specs.declared.Sought.{Sought}
+use Rattle.commands.specs.declared.Sought.the-variants as sought
+use Rattle.flash.specs.Calls.{happening, Fits, Way, forward, back, kept, Call}
+use Rattle.flash.specs.Opening.{openedBy}
+use Rattle.flash.specs.Reached.{Reached, opened, called}
+use Rattle.flash.specs.Sessions.{Outcome, withTotals, fetching}
+use Rattle.flash.specs.Step.{argument, after, overflowing, loadAt, loadJudgedAs, soughtAs, requested, named, entered, performed, atRow, stepOf}
+use Rattle.flash.specs.Totals.{Lent, answerTo, afterCalls, sizesIn, sizesFound, acceptedIn, sizesAccepted, CountsAccepted, EntersOnTotals, untold, Am17xxHasNone}
+use Rattle.flash.specs.declared.Called.{Called}
+use Rattle.flash.specs.declared.Opened.{Opened}
+use Rattle.flash.specs.declared.Session.{Session}
+use Rattle.flash.proofs.Calls.{every-call}
+
+-- what a command that goes forward leaves standing
+module _ (s : Session) (size : ℕ) (dialect : s .dialect ≡ Dm648) where
+  abbrev Stands : Command → Type 0
+  Stands c = Fits s (happening c size) → inFlash (s .dialect) (s .totals) (happening c size) .now ≡ plus (s .totals .now) (sizesIn (happening c size))
+
+  section-stands : wouldPass (s .dialect) (s .totals) size ≡ false
+      → inFlash (s .dialect) (s .totals) (section size) .now ≡ plus (s .totals .now) (size ∷ [])
+  section-stands fits = plus-one (s .dialect) (s .totals) size dialect fits
+
+  command-stands : (c : Command) → Stands c
+  command-stands command.Load fits = section-stands fits
+  command-stands command.Fill fits = section-stands fits
+  command-stands command.BootTable fits = plus-none (s .totals .now)
+  command-stands command.Enable fits = plus-none (s .totals .now)
+  command-stands command.Disable fits = plus-none (s .totals .now)
+  command-stands command.Request fits = plus-none (s .totals .now)
+  command-stands command.StartOver fits = plus-none (s .totals .now)
+  command-stands command.JumpAndClose fits = plus-none (s .totals .now)
+  command-stands command.Ping fits = plus-none (s .totals .now)
+  command-stands command.SequentialRead fits = plus-none (s .totals .now)
+
+-- one call without a retry
+module _ (s : Session) (lent : Lent) where
+  abbrev answer : Called
+  answer = answerTo s lent
+
+  abbrev call : Call s (lent .image) answer
+  call = every-call s (lent .memory) (lent .image)
+
+  -- no call takes a retry back
+  never-fewer : s .retries ≤ answer .session .retries
+  never-fewer = go (call .way)
+    where
+      go : Way s (lent .image) answer → s .retries ≤ answer .session .retries
+      go (forward f) = omega (arith, f .retries)
+      go (back b) = omega (arith, b .counted)
+      go (kept k) = omega (arith, k .retries)
+
+  call-stands : s .dialect ≡ Dm648 → answer .session .retries ≡ s .retries → answer .session .totals .now ≡ plus (s .totals .now) (acceptedIn s lent)
+  unfolding acceptedIn
+  call-stands dialect same = go (call .way)
+    where
+      go : Way s (lent .image) answer → answer .session .totals .now ≡ plus (s .totals .now) (acceptedIn s lent)
+      go (forward f) =
+          let size = argument s (lent .image) 1 in
+          ap (λ (t : Totals). t .now) (f .totals)
+          ∙ command-stands s size dialect (f .command) (f .fits)
+          ∙ ap (plus (s .totals .now))
+          (sym (chosen _ _ _ (eq-eqb _ _ (ap numberOf (f .accepted))) ∙ ap (λ (found : Found). sizesFound found size) (f .reads .row)))
+      go (back b) = absurd (omega (arith, b .counted))
+      go (kept k) =
+          ap (λ (t : Totals). t .now) (k .totals) ∙ plus-none (s .totals .now)
+          ∙ ap (plus (s .totals .now)) (sym (passed _ _ _ (ne-eqb _ _ (k .refused))))
+
+calls-never-fewer : (s : Session) (calls : List Lent) → s .retries ≤ afterCalls s calls .retries
+unfolding afterCalls
+calls-never-fewer s [] = omega arith
+calls-never-fewer s (lent ∷ rest) = omega (arith, never-fewer s lent, calls-never-fewer (answerTo s lent .session) rest)
+
+calls-stand : (s : Session) (calls : List Lent) → s .dialect ≡ Dm648 → afterCalls s calls .retries ≡ s .retries
+    → afterCalls s calls .totals .now ≡ plus (s .totals .now) (sizesAccepted s calls)
+unfolding afterCalls sizesAccepted
+calls-stand s [] dialect same = plus-none (s .totals .now)
+calls-stand s (lent ∷ rest) dialect same =
+    let t = answerTo s lent .session in
+    let kept-so-far : t .retries ≡ s .retries = omega (arith, never-fewer s lent, calls-never-fewer t rest) in
+    calls-stand t rest (every-call s (lent .memory) (lent .image) .same-dialect ∙ dialect) (same ∙ sym kept-so-far)
+    ∙ ap (λ (now : Standing). plus now (sizesAccepted t rest)) (call-stands s lent dialect kept-so-far)
+    ∙ plus-more (s .totals .now) (acceptedIn s lent) (sizesAccepted t rest)
+
+pub counts-accepted : CountsAccepted
+counts-accepted windows bytes limit calls same = calls-stand _ calls refl same
+
+-- an entry goes forward, and 17 did not refuse it
+pub enters-on-totals : EntersOnTotals
+enters-on-totals s m image dialect enters = go (every-call s m image .way)
+  where
+    go : Way s image (stepOf s m image .answer) → named s image ≡ s .totals .now
+    go (forward f) =
+        names-them (s .totals .now) (named s image) (subst (λ (d : Dialect). differs d (s .totals) (named s image) ≡ false) dialect (f .naming enters))
+    go (back b) = absurd (omega (arith, enters, ap kindOf (b .no-event)))
+    go (kept k) = absurd (omega (arith, enters, ap kindOf (k .no-event)))
+
+-- what happens in AM17xx leaves totals of 0 as they are
+zero-stays : (h : Happening) → inFlash Am17xx atOpening h ≡ atOpening
+zero-stays (section size) = refl
+zero-stays enable = refl
+zero-stays marks = refl
+zero-stays retried = refl
+zero-stays other = refl
+
+opened-zero : (dialect : Dialect) (count : ℕ) (windows : List Window) (image : List ℕ) (limit : ℕ)
+    → openedBy dialect count windows image limit .session .totals ≡ atOpening
+unfolding openedBy
+opened-zero dialect count windows image limit =
+    let Zero : Opened → Type 0 = λ o. o .session .totals ≡ atOpening in
+    of-choice Zero _ (λ e. refl) (λ e. of-choice Zero _ (λ e. refl) (λ e. of-choice Zero _ (λ e. refl) (λ e. refl)))
+
+call-zero : {s : Session} {image : List ℕ} {a : Called} → s .dialect ≡ Am17xx → s .totals ≡ atOpening → Way s image a → a .session .totals ≡ atOpening
+call-zero {s} {image} {a} dialect zero way = go way
+  where
+    stays : (h : Happening) → inFlash (s .dialect) (s .totals) h ≡ atOpening
+    stays h = ap₂ (λ (d : Dialect) (t : Totals). inFlash d t h) dialect zero ∙ zero-stays h
+
+    go : Way s image a → a .session .totals ≡ atOpening
+    go (forward f) = f .totals ∙ stays (happening (f .command) (argument s image 1))
+    go (back b) = b .totals ∙ stays retried
+    go (kept k) = k .totals ∙ zero
+
+reached-zero : {s : Session} → Reached s → s .dialect ≡ Am17xx → s .totals ≡ atOpening
+reached-zero (opened dialect count windows image limit) e = opened-zero dialect count windows image limit
+reached-zero (called {s} lent reached) e =
+    let call = every-call s (lent .memory) (lent .image) in
+    let before : s .dialect ≡ Am17xx = sym (call .same-dialect) ∙ e in
+    call-zero before (reached-zero reached before) (call .way)
+
+-- a session in a dialect, all else as it was
+abbrev inDialect : Session → Dialect → Session
+inDialect s dialect =
+    record {
+      windows = s .windows;
+      ended = s .ended;
+      on = s .on;
+      register = s .register;
+      offset = s .offset;
+      length = s .length;
+      limit = s .limit;
+      retries = s .retries;
+      fetched = s .fetched;
+      dialect = dialect;
+      totals = s .totals;
+    }
+
+-- a session of AM17xx with these totals
+abbrev withNone : Session → Totals → Session
+withNone s t = inDialect (withTotals s t) Am17xx
+
+-- two answers, and two outcomes, that differ in the totals alone
+record AnswerAlike (a b : Called) : Type 0 where
+  told : untold a ≡ untold b
+
+record Alike (o p : Outcome) : Type 0 where
+  answer : AnswerAlike (o .answer) (p .answer)
+  memory : o .memory ≡ p .memory
+
+alike-choice : (test : Bool) {o p q r : Outcome} → Alike o p → Alike q r → Alike (pick test o q) (pick test p r)
+unfolding pick
+alike-choice true first second = first
+alike-choice false first second = second
+
+answer-choice : (test : Bool) {a b c d : Called} → AnswerAlike a b → AnswerAlike c d → AnswerAlike (pick test a c) (pick test b d)
+unfolding pick
+answer-choice true first second = first
+answer-choice false first second = second
+
+entered-alike : {a b : Called} → AnswerAlike a b → AnswerAlike (entered a) (entered b)
+entered-alike same = record { told = ap (λ (a : Called). untold (entered a)) (same .told) }
+
+module _ (m image : List ℕ) (t u : Totals) where
+  module _ (s : Session) where
+    after-alike : (v w : Totals) (done : Done) (n : ℕ) → AnswerAlike (after (withNone s t) v done n) (after (withNone s u) w done n)
+    unfolding after
+    after-alike v w done n = answer-choice _ (record { told = refl }) (record { told = refl })
+
+    load-alike : (address size : ℕ) (judged : Judged)
+        → Alike (loadJudgedAs (withNone s t) m image address size judged) (loadJudgedAs (withNone s u) m image address size judged)
+    unfolding loadAt
+    load-alike address size (Granted place) =
+        alike-choice _ (record { answer = record { told = refl }; memory = refl }) (record { answer = record { told = refl }; memory = refl })
+    load-alike address size (Refused q) = record { answer = record { told = refl }; memory = refl }
+
+    sought-alike : (led : Sought) → AnswerAlike (soughtAs (withNone s t) led) (soughtAs (withNone s u) led)
+    sought-alike (sought.To offset) = record { told = refl }
+    sought-alike (sought.Refused q) = record { told = refl }
+
+    request-alike : (expected seek : ℕ) → AnswerAlike (requested (withNone s t) expected seek) (requested (withNone s u) expected seek)
+    unfolding requested
+    request-alike expected seek = answer-choice _ (record { told = refl }) (answer-choice _ (record { told = refl }) (sought-alike (soughtFrom (s .offset) seek)))
+
+    performed-alike : (c : Command) → Alike (performed c (withNone s t) m image) (performed c (withNone s u) m image)
+    unfolding argument
+    performed-alike command.Load =
+        load-alike (argument s image 0) (argument s image 1)
+        (overflowing (withNone s t) (argument s image 1) (loadJudged (s .windows) (argument s image 0) (argument s image 1)))
+    performed-alike command.Fill = record { answer = after-alike _ _ _ _; memory = refl }
+    performed-alike command.BootTable = record { answer = after-alike _ _ _ _; memory = refl }
+    performed-alike command.Enable = record { answer = record { told = refl }; memory = refl }
+    performed-alike command.Disable = record { answer = record { told = refl }; memory = refl }
+    performed-alike command.Request = record { answer = request-alike _ _; memory = refl }
+    performed-alike command.StartOver = record { answer = record { told = refl }; memory = refl }
+    performed-alike command.JumpAndClose = record { answer = entered-alike (after-alike _ _ _ _); memory = refl }
+    performed-alike command.Ping = record { answer = record { told = refl }; memory = refl }
+    performed-alike command.SequentialRead = record { answer = record { told = refl }; memory = refl }
+
+  row-alike : (s : Session) (found : Found) → Alike (atRow (withNone s t) m image found) (atRow (withNone s u) m image found)
+  row-alike s Unknown = record { answer = record { told = refl }; memory = refl }
+  row-alike s Retired = record { answer = record { told = refl }; memory = refl }
+  row-alike s (Known c words) =
+      alike-choice _ (record { answer = record { told = refl }; memory = refl }) (performed-alike (fetching (1 + words) s) c)
+
+  step-alike : (s : Session) → Alike (stepOf (withNone s t) m image) (stepOf (withNone s u) m image)
+  unfolding stepOf
+  step-alike s =
+      alike-choice _ (record { answer = record { told = refl }; memory = refl })
+      (alike-choice _ (record { answer = record { told = refl }; memory = refl })
+      (alike-choice _ (record { answer = record { told = refl }; memory = refl })
+      (alike-choice _ (record { answer = record { told = refl }; memory = refl }) (row-alike s (lookedUp (wordAt image (s .offset)) Flash Am17xx)))))
+
+pub am17xx-has-none : Am17xxHasNone
+am17xx-has-none =
+    record {
+      zero = λ s reached e. reached-zero reached e;
+      unseen = λ s t m image e.
+          let same = step-alike m image t (s .totals) s in
+          let there : withNone s (s .totals) ≡ s = ap (inDialect s) (sym e) in
+          let other : withNone s t ≡ withTotals s t = ap (inDialect (withTotals s t)) (sym e) in (
+            ap (λ (x : Session). untold (stepOf x m image .answer)) (sym other) ∙ same .answer .told
+                ∙ ap (λ (x : Session). untold (stepOf x m image .answer)) there,
+            ap (λ (x : Session). stepOf x m image .memory) (sym other) ∙ same .memory ∙ ap (λ (x : Session). stepOf x m image .memory) there,
+          );
+    }

@@ -1,0 +1,16 @@
+-- `flash::overflow` meets its contract: the test and its number are the definition's.
+use borrow.Author.Needs.{needs}
+use Rattle.flash.proofs.overflow.Statement.{statement}
+use Rattle.flash.proofs.overflow.Tie as tie
+
+would-pass-requires : tie.Need-would-pass-requires
+would-pass-requires c κs = search needs
+
+bar-requires : tie.Need-bar-requires
+bar-requires c κs = search needs
+
+returns : tie.Need-returns
+returns c = rw (c .bar .ensures, c .before .would-pass .ensures)
+
+pub overflow-spec : {M : Type 1} → statement M
+overflow-spec = tie.close (tie.spec would-pass-requires bar-requires returns)

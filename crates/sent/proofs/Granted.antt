@@ -1,0 +1,58 @@
+-- A load or a command done at its last argument word that is not refused was granted: what is judged refused has a refusal's number.
+use Prim.Native.Nat.{ℕ}
+use mathlib.Core.Bool.{Bool}
+use mathlib.Core.Logic.{_≢_}
+use mathlib.Core.Path.{_≡_, refl, sym, ap, _∙_}
+use lib.Dec.{eqb}
+use borrow.Author.Tests.{ne-eqb, eqb-false}
+use Rattle.words.proofs.Choice.{passed}
+use Rattle.script.specs.Answers.{numberOf}
+use Rattle.script.specs.declared.Event.{Event}
+use Rattle.script.specs.declared.Refusal.{Refusal}
+use Rattle.script.specs.declared.Refusal.the-variants as refusal
+use Rattle.totals.specs.declared.Totals.{Totals}
+use Rattle.commands.specs.Commands.{barred, doneIf}
+use Rattle.commands.specs.declared.Judged.{Judged}
+use Rattle.commands.specs.declared.Judged.the-variants.{Granted, Refused}
+use Rattle.commands.proofs.Judging.{EachRefusal, Passes, barred-passes}
+use Rattle.sent.specs.Machine.{after, loadBegun}
+use Rattle.sent.specs.declared.Core.{Core}
+use Rattle.sent.specs.declared.Taken.{Taken}
+
+-- a command has a place
+pub record GrantedAt (judged : Judged) : Type 0 where
+  pub place : ℕ
+  pub granted : judged ≡ Granted place
+
+-- what is judged refused has a refusal's number
+abbrev pub Numbered : Judged → Type 0
+Numbered j = Passes (λ (q : Refusal). numberOf q ≢ 0) j
+
+pub numbers : EachRefusal (λ (q : Refusal). numberOf q ≢ 0)
+numbers =
+    record {
+      type-word = eqb-false 8 0 refl;
+      too-wide = eqb-false 16 0 refl;
+      unaligned = eqb-false 9 0 refl;
+      range = eqb-false 7 0 refl;
+      entry = eqb-false 10 0 refl;
+    }
+
+-- 18 is one
+pub section-numbered : (test : Bool) (judged : Judged) → Numbered judged → Numbered (barred test refusal.Overflow judged)
+section-numbered test judged h = barred-passes (λ (q : Refusal). numberOf q ≢ 0) test refusal.Overflow judged (eqb-false 18 0 refl) h
+
+none-is-none : (q : Refusal) → q ≡ refusal.None → numberOf q ≢ 0 → ⊥
+none-is-none q e h = h (ap numberOf e)
+
+pub load-not-refused : (k : Core) (address size : ℕ) (judged : Judged) → Numbered judged → loadBegun k address size judged .refusal ≡ refusal.None
+    → GrantedAt judged
+load-not-refused k address size (Granted place) h e = record { place = place; granted = refl }
+load-not-refused k address size (Refused q) h e = absurd (none-is-none q e h)
+
+pub done-not-refused : (k : Core) (totals : Totals) (judged : Judged) (register : ℕ) (event : Event) (fed : ℕ) → Numbered judged
+    → after k totals (doneIf judged register event fed) .refusal ≡ refusal.None → GrantedAt judged
+unfolding after
+done-not-refused k totals (Granted place) register event fed h e = record { place = place; granted = refl }
+done-not-refused k totals (Refused q) register event fed h e =
+    absurd (none-is-none q (sym (ap (λ (t : Taken). t .refusal) (passed (eqb (numberOf q) 0) _ _ (ne-eqb (numberOf q) 0 h))) ∙ e) h)
