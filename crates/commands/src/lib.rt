@@ -109,19 +109,19 @@ pub fn bar(judged: Judged, test: bool, refusal: Refusal) -> Judged
     ensures { λ r. ⌜ r ≡ barred test refusal judged ⌝ }
 {
     match judged {
-        Judged::Granted(_) => barred_if(judged, test, refusal),
+        Judged::Granted(place) => barred_if(place, test, refusal),
         Judged::Refused(first) => Judged::Refused(first),
     }
 }
 
-// The refusal where the test holds.
-fn barred_if(judged: Judged, test: bool, refusal: Refusal) -> Judged
-    ensures { λ r. ⌜ r ≡ pick test (Judged.Refused refusal) judged ⌝ }
+// The refusal where the test holds, else the place. It is granted anew, since a judgement that is handed on whole is copied byte by byte.
+fn barred_if(place: usize, test: bool, refusal: Refusal) -> Judged
+    ensures { λ r. ⌜ r ≡ pick test (Judged.Refused refusal) (Judged.Granted place) ⌝ }
 {
     if test {
         return Judged::Refused(refusal);
     }
-    judged
+    Judged::Granted(place)
 }
 
 // Is a load of `size` bytes at an address granted?

@@ -4,11 +4,18 @@ ghost use Prim.Native.Nat.{_<_};
 ghost use Rattle.maps.specs.Map.{windowAt, windowsOf, countOf};
 use windows::Window;
 
-// A window of the map; words past its end count as 0.
+// A window of the map; words past its end count as 0, and where it is all past the end none is looked for.
 fn window_at(map: &[u8], i: usize) -> Window
     requires { ⌜ i < 8 ⌝ }
     ensures { λ r. ⌜ r ≡ windowAt (now (map .entry)) i ⌝ }
 {
+    if map.len() <= 12 * i {
+        return Window {
+            first: 0,
+            length: 0,
+            rights: 0,
+        };
+    }
     let first = words::word_at(map, 12 * i);
     let length = words::word_at(map, 12 * i + 4);
     let rights = words::word_at(map, 12 * i + 8);

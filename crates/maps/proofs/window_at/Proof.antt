@@ -1,8 +1,29 @@
--- `maps::window_at` meets its contract: its three words are those of the window.
+-- `maps::window_at` meets its contract: its three words are those of the window, and past the end each is 0.
 use borrow.Author.Needs.{needs}
+use Prim.Native.Nat.{ℕ, _+_, _*_, _≤_}
+use mathlib.Core.List.{List}
+use mathlib.Core.Path.{_≡_, ap}
+use native.Mathlib.Omega.{arith}
+use lib.ListN.{length, take, drop-of-length-le}
+use Rattle.words.specs.Bytes.{number, bytesAt, wordAt}
 use Rattle.maps.specs.Map.{windowAt}
 use Rattle.maps.proofs.window_at.Statement.{statement}
 use Rattle.maps.proofs.window_at.Tie as tie
+
+-- a word past the end is 0
+past : (bytes : List ℕ) (at : ℕ) → length bytes ≤ at → wordAt bytes at ≡ 0
+unfolding wordAt bytesAt number
+past bytes at beyond = ap (λ (x : List ℕ). number (take 4 x)) (drop-of-length-le bytes beyond)
+
+mul-if1 : tie.Need-mul-if1
+mul-if1 c = search needs
+
+returns : tie.Need-returns
+unfolding windowAt
+returns c =
+    let bytes = c .before .before .args .map .now in
+    let i = c .before .before .args .i in
+    rw (past bytes (12 * i) (omega (arith, c .if1 .taken)), past bytes (12 * i + 4) (omega (arith, c .if1 .taken)), past bytes (12 * i + 8) (omega (arith, c .if1 .taken)))
 
 mul-word-at : tie.Need-mul-word-at
 mul-word-at c = search needs
@@ -28,14 +49,16 @@ add-word-at-2 c = search needs
 word-at-requires-3 : tie.Need-word-at-requires-3
 word-at-requires-3 c κs = search needs
 
-returns : tie.Need-returns
+returns-2 : tie.Need-returns-2
 unfolding windowAt
-returns c = rw (c .word-at3 .ensures, c .before .word-at2 .ensures, c .before .before .word-at .ensures)
+returns-2 c = rw (c .word-at3 .ensures, c .before .word-at2 .ensures, c .before .before .word-at .ensures)
 
 pub window-at-spec : {M : Type 1} → statement M
 window-at-spec =
     tie.close
     (tie.spec
+    mul-if1
+    returns
     mul-word-at
     word-at-requires
     mul-word-at-2
@@ -44,4 +67,4 @@ window-at-spec =
     mul-word-at-3
     add-word-at-2
     word-at-requires-3
-    returns)
+    returns-2)
