@@ -32,6 +32,7 @@ use Rattle.totals.proofs.Totals.settle.Reads as totals-settle
 use Rattle.totals.proofs.Totals.ask.Reads as totals-ask
 use Rattle.totals.proofs.Totals.put_back.Reads as totals-put-back
 use Rattle.totals.proofs.Totals.turn.Reads as totals-turn
+use Rattle.totals.proofs.Totals.happen.Reads as totals-happen
 use Rattle.commands.proofs.bar.Reads as bar
 use Rattle.commands.proofs.judge_load.Reads as judge_load
 use Rattle.commands.proofs.judge_fill.Reads as judge_fill
@@ -193,6 +194,9 @@ totals-put-back-unique κs a r s e f = same
 
 pub totals-turn-unique : OneResult totals-turn.Post
 totals-turn-unique κs a r s e f = same
+
+pub totals-happen-unique : OneResult totals-happen.Post
+totals-happen-unique κs a r s e f = same
 
 -- commands
 pub bar-unique : OneResult bar.Post

@@ -25,8 +25,9 @@ use Rattle.script.specs.declared.Mode.the-variants.{Flash}
 use Rattle.script.specs.declared.Refusal.{Refusal}
 use Rattle.script.specs.declared.Refusal.the-variants as refusal
 use Rattle.script.proofs.Counts.{rowIs, row-is}
-use Rattle.totals.specs.Agreement.{section, inFlash}
 use Rattle.totals.specs.Totals.{differs}
+use Rattle.totals.specs.declared.Happening.{Happening}
+use Rattle.totals.specs.declared.Happening.the-variants as happened
 use Rattle.totals.specs.declared.Totals.{Totals}
 use Rattle.commands.specs.Commands.{judgedNumber}
 use Rattle.commands.specs.declared.Done.{Done}
@@ -109,9 +110,9 @@ module _ (s : Session) (image : List ℕ) where
   unfolding met wordsFrom
   met-found e h = rw e (omega arith)
 
-  -- the totals that a command leaves where it goes forward: those that its happening says, and no section passes the largest
-  abbrev Tallied : Command → Totals → Type 0
-  Tallied c totals = (totals ≡ inFlash (s .dialect) (s .totals) (happening c (argument s image 1))) × Fits s (happening c (argument s image 1))
+  -- what a command is to the totals where it goes forward
+  abbrev what : Command → Happening
+  what c = happening c (argument s image 1)
 
   module _ (standing : s .ended ≡ false) where
     -- refused, the session ended
@@ -133,11 +134,11 @@ module _ (s : Session) (image : List ℕ) where
         (not-over q (e .unspared) ∙ sym standing) (sym (passed _ _ _ (e .unspared)))
 
     -- accepted, past the words of the command
-    passes : {c : Command} {words : ℕ} {told : Event} {over switch : Bool} {register offset fetched : ℕ} {totals : Totals} → Reads s image c words
-        → offset ≡ s .offset + 4 * words → fetched ≡ countedOn (s .fetched) words → Tallied c totals → over ≡ eqb (kindOf told) 3
+    passes : {c : Command} {words : ℕ} {told : Event} {over switch : Bool} {register offset fetched : ℕ} → Reads s image c words
+        → offset ≡ s .offset + 4 * words → fetched ≡ countedOn (s .fetched) words → Fits s (what c) → over ≡ eqb (kindOf told) 3
         → (kindOf told ≡ 3 → (c ≡ command.JumpAndClose) × (differs (s .dialect) (s .totals) (named s image) ≡ false))
-        → Call s image (accepted s told (changed s over switch register offset (s .retries) fetched totals))
-    passes {c} {words} reads past all tallied ended entering =
+        → Call s image (accepted s (what c) told (changed s over switch register offset (s .retries) fetched (s .totals)))
+    passes {c} {words} reads past all fits ended entering =
         answered
         (forward
         (record {
@@ -148,8 +149,8 @@ module _ (s : Session) (image : List ℕ) where
           offset = past;
           fetched = all;
           retries = refl;
-          totals = tallied .0;
-          fits = tallied .1;
+          totals = refl;
+          fits = fits;
           ended = ended;
           entering = λ e. entering e .0;
           naming = λ e. entering e .1;
@@ -157,10 +158,10 @@ module _ (s : Session) (image : List ℕ) where
         (sym standing) (sym (passed _ _ _ refl))
 
     -- accepted with no event of entering, and going on
-    goes-on : {c : Command} {words : ℕ} {told : Event} {switch : Bool} {register offset fetched : ℕ} {totals : Totals} → kindOf told ≢ 3
-        → Reads s image c words → offset ≡ s .offset + 4 * words → fetched ≡ countedOn (s .fetched) words → Tallied c totals
-        → Call s image (accepted s told (changed s (s .ended) switch register offset (s .retries) fetched totals))
-    goes-on other reads past all tallied = passes reads past all tallied (standing ∙ sym (ne-eqb _ _ other)) (λ e. absurd (other e))
+    goes-on : {c : Command} {words : ℕ} {told : Event} {switch : Bool} {register offset fetched : ℕ} → kindOf told ≢ 3
+        → Reads s image c words → offset ≡ s .offset + 4 * words → fetched ≡ countedOn (s .fetched) words → Fits s (what c)
+        → Call s image (accepted s (what c) told (changed s (s .ended) switch register offset (s .retries) fetched (s .totals)))
+    goes-on other reads past all fits = passes reads past all fits (standing ∙ sym (ne-eqb _ _ other)) (λ e. absurd (other e))
 
     -- a command whose opcode and argument words were met, and fetched
     module _ (n : ℕ) (whole : met s image ≡ n) where
@@ -173,21 +174,21 @@ module _ (s : Session) (image : List ℕ) where
       denied q e = stops q e (ap (countedOn (s .fetched)) (sym whole))
 
       -- that was judged
-      after-call : {c : Command} {kind : ℕ} {done : Done} {totals : Totals} (words : ℕ) → words ≡ n → kind ≢ 3 → Answers kind done
-          → Reads s image c words → (numberOf (done .refusal) ≡ 0 → Tallied c totals) → Call s image (after fetched totals done words)
+      after-call : {c : Command} {kind : ℕ} {done : Done} (words : ℕ) → words ≡ n → kind ≢ 3 → Answers kind done
+          → Reads s image c words → (numberOf (done .refusal) ≡ 0 → Fits s (what c)) → Call s image (after fetched (what c) done words)
       unfolding after
-      after-call words all other (accepts e k) reads tallied =
+      after-call words all other (accepts e k) reads fits =
           subst (Call s image) (sym (chosen _ _ _ (eq-eqb _ _ e)))
-          (goes-on (λ z. other (sym k ∙ z)) reads refl (ap (countedOn (s .fetched)) (sym all)) (tallied e))
-      after-call words all other (rejects e) reads tallied = subst (Call s image) (sym (passed _ _ _ (ne-eqb _ _ (e .refused)))) (denied _ e)
+          (goes-on (λ z. other (sym k ∙ z)) reads refl (ap (countedOn (s .fetched)) (sym all)) (fits e))
+      after-call words all other (rejects e) reads fits = subst (Call s image) (sym (passed _ _ _ (ne-eqb _ _ (e .refused)))) (denied _ e)
 
       entered-call : {done : Done} (words : ℕ) → words ≡ n → Answers 3 done → Reads s image command.JumpAndClose words
           → (numberOf (done .refusal) ≡ 0 → differs (s .dialect) (s .totals) (named s image) ≡ false)
-          → Call s image (entered (after fetched (s .totals) done words))
+          → Call s image (entered (after fetched happened.Other done words))
       unfolding after
       entered-call words all (accepts e k) reads same =
           subst (λ (a : Called). Call s image (entered a)) (sym (chosen _ _ _ (eq-eqb _ _ e)))
-          (passes reads refl (ap (countedOn (s .fetched)) (sym all)) (refl, tt) (sym (eq-eqb _ _ k)) (λ z. (refl, same e)))
+          (passes reads refl (ap (countedOn (s .fetched)) (sym all)) tt (sym (eq-eqb _ _ k)) (λ z. (refl, same e)))
       entered-call words all (rejects e) reads same =
           subst (λ (a : Called). Call s image (entered a)) (sym (passed _ _ _ (ne-eqb _ _ (e .refused)))) (denied _ e)
 
@@ -216,7 +217,7 @@ module _ (s : Session) (image : List ℕ) where
         request-call : (expected seek : ℕ) → words ≡ 3 → Call s image (requested fetched expected seek)
         unfolding requested
         request-call expected seek three =
-            of-choice (Call s image) _ (λ e. goes-on (λ z. omega arith) reads (omega arith) (ap (countedOn (s .fetched)) (sym all)) (refl, tt))
+            of-choice (Call s image) _ (λ e. goes-on (λ z. omega arith) reads (omega arith) (ap (countedOn (s .fetched)) (sym all)) tt)
             (λ e. of-choice (Call s image) _ (λ e. denied refusal.Checksum (ends refusal.Checksum refl))
             (λ e. sought-call (seek-leads (s .offset) seek) (leb-false _ _ e)))
 
@@ -237,7 +238,7 @@ module _ (s : Session) (image : List ℕ) where
 
       load-call : {arguments : ℕ} {j : Judged} → lookedUp (wordAt image (s .offset)) Flash (s .dialect) ≡ Known command.Load arguments
           → s .offset + 4 + 4 * arguments ≤ length image → arguments ≡ 2 → Judges j
-          → (judgedNumber j ≡ 0 → Fits s (section (argument s image 1)))
+          → (judgedNumber j ≡ 0 → Fits s (what command.Load))
           → Answered
           (loadJudgedAs (fetching (1 + arguments) s) m image (argument (fetching (1 + arguments) s) image 0)
           (argument (fetching (1 + arguments) s) image 1) j)
@@ -246,7 +247,7 @@ module _ (s : Session) (image : List ℕ) where
           of-choice Answered _ (λ e. denied (1 + arguments) (whole known here) refusal.Missing (ends refusal.Missing refl))
           (λ e. goes-on (λ z. omega arith)
           (read known here (1 + arguments + dataWords command.Load s image) refl (omega (arith, there image _ _ (not-false _ e)))) (omega arith)
-          (counted-both (s .fetched) (1 + arguments) _) (refl, fits refl))
+          (counted-both (s .fetched) (1 + arguments) _) (fits refl))
       load-call {arguments} known here two (denies e) fits = denied (1 + arguments) (whole known here) _ e
 
       -- 18 follows what judges a section, and 17 what judges an entry
@@ -265,17 +266,17 @@ module _ (s : Session) (image : List ℕ) where
           let four = eqb-true n 4 row in
           let judges = fill-judges (s .windows) _ _ _ in
           after-call (1 + n) (whole known h) 5 (omega arith) (λ z. omega arith) (fill-answers (section-judges _ judges) _ _ _ _ _ _)
-          (read known h 5 (omega arith) (omega arith)) (λ e. (refl, test-failed _ (ends refusal.Overflow refl) judges (sym (fill-number _ _ _ _ _ _ _) ∙ e)))
+          (read known h 5 (omega arith) (omega arith)) (λ e. test-failed _ (ends refusal.Overflow refl) judges (sym (fill-number _ _ _ _ _ _ _) ∙ e))
       performed-call command.BootTable n row known h =
           let four = eqb-true n 4 row in
           after-call (1 + n) (whole known h) 5 (omega arith) (λ z. omega arith) (setting-answers (setting-judges (s .windows) _ _ _) _ _)
-          (read known h 5 (omega arith) (omega arith)) (λ e. (refl, tt))
+          (read known h 5 (omega arith) (omega arith)) (λ e. tt)
       performed-call command.Enable n row known h =
           let none = eqb-true n 0 row in
-          goes-on (λ z. omega arith) (read known h (1 + n) (omega arith) (omega arith)) (omega arith) refl (refl, tt)
+          goes-on (λ z. omega arith) (read known h (1 + n) (omega arith) (omega arith)) (omega arith) refl tt
       performed-call command.Disable n row known h =
           let none = eqb-true n 0 row in
-          goes-on (λ z. omega arith) (read known h (1 + n) (omega arith) (omega arith)) (omega arith) refl (refl, tt)
+          goes-on (λ z. omega arith) (read known h (1 + n) (omega arith) (omega arith)) (omega arith) refl tt
       performed-call command.Request n row known h =
           let two = eqb-true n 2 row in
           request-call (1 + n) (whole known h) (omega arith) (read known h 3 (omega arith) (omega arith)) _ _ refl
@@ -289,7 +290,7 @@ module _ (s : Session) (image : List ℕ) where
       performed-call command.Ping n row known h = absurd (true≢false (sym row))
       performed-call command.SequentialRead n row known h =
           let none = eqb-true n 0 row in
-          goes-on (λ z. omega arith) (read known h (1 + n) (omega arith) (omega arith)) (omega arith) refl (refl, tt)
+          goes-on (λ z. omega arith) (read known h (1 + n) (omega arith) (omega arith)) (omega arith) refl tt
 
       row-call : (found : Found) → lookedUp (wordAt image (s .offset)) Flash (s .dialect) ≡ found → s .offset + 4 ≤ length image → Answered (atRow s m image found)
       unfolding wordsFrom

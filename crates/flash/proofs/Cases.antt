@@ -18,10 +18,11 @@ use Rattle.script.specs.declared.Found.{Found}
 use Rattle.script.specs.declared.Found.the-variants.{Known}
 use Rattle.script.specs.declared.Mode.the-variants.{Flash}
 use Rattle.script.specs.declared.Refusal.the-variants as refusal
+use Rattle.totals.specs.declared.Happening.the-variants as happening
 use Rattle.commands.specs.Commands.{multiple, loadJudged, loaded, loadFed, fillJudged, settingJudged}
 use Rattle.commands.specs.declared.Judged.{Judged}
 use Rattle.flash.specs.Opening.{goodLength}
-use Rattle.flash.specs.Sessions.{_leaving_, goTo, withTotals, oneSection, fetching, unchanged, stopped, accepted}
+use Rattle.flash.specs.Sessions.{_leaving_, goTo, fetching, unchanged, stopped, accepted}
 use Rattle.flash.specs.Step.{present, wordsFrom, argument, overflowing, loadAt, loadJudgedAs, fillJudgedAs, settingJudgedAs, performed, atRow, stepOf}
 use Rattle.flash.specs.declared.Session.{Session}
 
@@ -57,8 +58,8 @@ module _ (s : Session) (m image : List ℕ) where
 
   pub load-whole : (address size place : ℕ) → s .offset + 12 + 4 * ((size + 3) / 4) ≤ length image
       → loadAt s m image address size place
-      ≡ accepted s Nothing
-      (goTo (withTotals (fetching ((size + 3) / 4) s) (oneSection s size)) (pick (s .on) (loadFed (s .register) address (bytesAt image (s .offset + 12) size)) (s .register))
+      ≡ accepted s (happening.Section size) Nothing
+      (goTo (fetching ((size + 3) / 4) s) (pick (s .on) (loadFed (s .register) address (bytesAt image (s .offset + 12) size)) (s .register))
       (s .offset + 12 + 4 * ((size + 3) / 4)))
       leaving loaded m place (bytesAt image (s .offset + 12) size)
   unfolding loadAt

@@ -20,8 +20,10 @@ use Rattle.script.specs.declared.Dialect.the-variants.{Am17xx, Dm648}
 use Rattle.script.specs.declared.Found.{Found}
 use Rattle.script.specs.declared.Found.the-variants.{Known, Retired, Unknown}
 use Rattle.script.specs.declared.Mode.the-variants.{Flash}
-use Rattle.totals.specs.Agreement.{Happening, section, enable, passed as marks, retried, other, inFlash, plus}
-use Rattle.totals.specs.Totals.{atOpening, wouldPass, differs}
+use Rattle.totals.specs.Agreement.{plus}
+use Rattle.totals.specs.Totals.{atOpening, wouldPass, differs, inFlash}
+use Rattle.totals.specs.declared.Happening.{Happening}
+use Rattle.totals.specs.declared.Happening.the-variants as happened
 use Rattle.totals.specs.declared.Standing.{Standing}
 use Rattle.totals.specs.declared.Totals.{Totals}
 use Rattle.totals.proofs.Laws.{names-them, plus-none, plus-more, plus-one}
@@ -48,7 +50,7 @@ module _ (s : Session) (size : ℕ) (dialect : s .dialect ≡ Dm648) where
   Stands c = Fits s (happening c size) → inFlash (s .dialect) (s .totals) (happening c size) .now ≡ plus (s .totals .now) (sizesIn (happening c size))
 
   section-stands : wouldPass (s .dialect) (s .totals) size ≡ false
-      → inFlash (s .dialect) (s .totals) (section size) .now ≡ plus (s .totals .now) (size ∷ [])
+      → inFlash (s .dialect) (s .totals) (happened.Section size) .now ≡ plus (s .totals .now) (size ∷ [])
   section-stands fits = plus-one (s .dialect) (s .totals) size dialect fits
 
   command-stands : (c : Command) → Stands c
@@ -127,11 +129,11 @@ enters-on-totals s m image dialect enters = go (every-call s m image .way)
 
 -- what happens in AM17xx leaves totals of 0 as they are
 zero-stays : (h : Happening) → inFlash Am17xx atOpening h ≡ atOpening
-zero-stays (section size) = refl
-zero-stays enable = refl
-zero-stays marks = refl
-zero-stays retried = refl
-zero-stays other = refl
+zero-stays (happened.Section size) = refl
+zero-stays happened.Enable = refl
+zero-stays happened.Passed = refl
+zero-stays happened.Retried = refl
+zero-stays happened.Other = refl
 
 opened-zero : (dialect : Dialect) (count : ℕ) (windows : List Window) (image : List ℕ) (limit : ℕ)
     → openedBy dialect count windows image limit .session .totals ≡ atOpening
@@ -148,7 +150,7 @@ call-zero {s} {image} {a} dialect zero way = go way
 
     go : Way s image a → a .session .totals ≡ atOpening
     go (forward f) = f .totals ∙ stays (happening (f .command) (argument s image 1))
-    go (back b) = b .totals ∙ stays retried
+    go (back b) = b .totals ∙ stays happened.Retried
     go (kept k) = k .totals ∙ zero
 
 reached-zero : {s : Session} → Reached s → s .dialect ≡ Am17xx → s .totals ≡ atOpening
@@ -202,9 +204,9 @@ entered-alike same = record { told = ap (λ (a : Called). untold (entered a)) (s
 
 module _ (m image : List ℕ) (t u : Totals) where
   module _ (s : Session) where
-    after-alike : (v w : Totals) (done : Done) (n : ℕ) → AnswerAlike (after (withNone s t) v done n) (after (withNone s u) w done n)
+    after-alike : (h : Happening) (done : Done) (n : ℕ) → AnswerAlike (after (withNone s t) h done n) (after (withNone s u) h done n)
     unfolding after
-    after-alike v w done n = answer-choice _ (record { told = refl }) (record { told = refl })
+    after-alike h done n = answer-choice _ (record { told = refl }) (record { told = refl })
 
     load-alike : (address size : ℕ) (judged : Judged)
         → Alike (loadJudgedAs (withNone s t) m image address size judged) (loadJudgedAs (withNone s u) m image address size judged)
@@ -226,13 +228,13 @@ module _ (m image : List ℕ) (t u : Totals) where
     performed-alike command.Load =
         load-alike (argument s image 0) (argument s image 1)
         (overflowing (withNone s t) (argument s image 1) (loadJudged (s .windows) (argument s image 0) (argument s image 1)))
-    performed-alike command.Fill = record { answer = after-alike _ _ _ _; memory = refl }
-    performed-alike command.BootTable = record { answer = after-alike _ _ _ _; memory = refl }
+    performed-alike command.Fill = record { answer = after-alike _ _ _; memory = refl }
+    performed-alike command.BootTable = record { answer = after-alike _ _ _; memory = refl }
     performed-alike command.Enable = record { answer = record { told = refl }; memory = refl }
     performed-alike command.Disable = record { answer = record { told = refl }; memory = refl }
     performed-alike command.Request = record { answer = request-alike _ _; memory = refl }
     performed-alike command.StartOver = record { answer = record { told = refl }; memory = refl }
-    performed-alike command.JumpAndClose = record { answer = entered-alike (after-alike _ _ _ _); memory = refl }
+    performed-alike command.JumpAndClose = record { answer = entered-alike (after-alike _ _ _); memory = refl }
     performed-alike command.Ping = record { answer = record { told = refl }; memory = refl }
     performed-alike command.SequentialRead = record { answer = record { told = refl }; memory = refl }
 

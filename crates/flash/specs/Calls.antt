@@ -18,8 +18,9 @@ use Rattle.script.specs.declared.Found.the-variants.{Known, Retired, Unknown}
 use Rattle.script.specs.declared.Mode.the-variants.{Flash}
 use Rattle.script.specs.declared.Refusal.{Refusal}
 use Rattle.script.specs.declared.Refusal.the-variants.{None}
-use Rattle.totals.specs.Agreement.{Happening, section, enable, passed, retried, other, inFlash}
-use Rattle.totals.specs.Totals.{wouldPass, differs}
+use Rattle.totals.specs.Totals.{wouldPass, differs, inFlash}
+use Rattle.totals.specs.declared.Happening.{Happening}
+use Rattle.totals.specs.declared.Happening.the-variants as happened
 use Rattle.flash.specs.Sessions.{countedOn}
 use Rattle.flash.specs.Step.{wordsFrom, argument, named, stepOf}
 use Rattle.flash.specs.declared.Called.{Called}
@@ -50,24 +51,24 @@ argumentWords (Known command words) = words
 
 -- what an accepted command that goes forward is to the totals, a load or a fill being of so many bytes
 abbrev pub happening : Command → ℕ → Happening
-happening Load size = section size
-happening Fill size = section size
-happening BootTable size = other
-happening Enable size = enable
-happening Disable size = other
-happening Request size = passed
-happening StartOver size = other
-happening JumpAndClose size = other
-happening Ping size = other
-happening SequentialRead size = other
+happening Load size = happened.Section size
+happening Fill size = happened.Section size
+happening BootTable size = happened.Other
+happening Enable size = happened.Enable
+happening Disable size = happened.Other
+happening Request size = happened.Passed
+happening StartOver size = happened.Other
+happening JumpAndClose size = happened.Other
+happening Ping size = happened.Other
+happening SequentialRead size = happened.Other
 
 -- a section takes no total past the largest
 abbrev pub Fits : Session → Happening → Type 0
-Fits s (section size) = wouldPass (s .dialect) (s .totals) size ≡ false
-Fits s enable = Unit {0}
-Fits s passed = Unit {0}
-Fits s retried = Unit {0}
-Fits s other = Unit {0}
+Fits s (happened.Section size) = wouldPass (s .dialect) (s .totals) size ≡ false
+Fits s happened.Enable = Unit {0}
+Fits s happened.Passed = Unit {0}
+Fits s happened.Retried = Unit {0}
+Fits s happened.Other = Unit {0}
 
 -- the opcode and the argument words of the command at the session's offset that an image has
 unfoldable pub met : Session → List ℕ → ℕ
@@ -110,7 +111,7 @@ pub record Back (s : Session) (image : List ℕ) (a : Called) : Type 0 where
   pub left : s .retries < s .limit
   pub fetched : a .session .fetched ≡ countedOn (s .fetched) words
   pub counted : a .session .retries ≡ s .retries + 1
-  pub totals : a .session .totals ≡ inFlash (s .dialect) (s .totals) retried
+  pub totals : a .session .totals ≡ inFlash (s .dialect) (s .totals) happened.Retried
   pub no-event : a .event ≡ Nothing
   pub running : a .session .ended ≡ false
 

@@ -6,7 +6,8 @@ use Rattle.script.specs.declared.Event.{Event}
 use Rattle.script.specs.declared.Event.the-variants.{Nothing}
 use Rattle.script.specs.declared.Refusal.{Refusal}
 use Rattle.script.specs.declared.Refusal.the-variants.{None}
-use Rattle.totals.specs.Totals.{counted, marked, putBack}
+use Rattle.totals.specs.Totals.{inFlash}
+use Rattle.totals.specs.declared.Happening.{Happening}
 use Rattle.totals.specs.declared.Totals.{Totals}
 use Rattle.flash.specs.declared.Called.{Called}
 use Rattle.flash.specs.declared.Session.{Session}
@@ -40,17 +41,13 @@ goTo s register offset = changed s (s .ended) (s .on) register offset (s .retrie
 abbrev pub withTotals : Session → Totals → Session
 withTotals s totals = changed s (s .ended) (s .on) (s .register) (s .offset) (s .retries) (s .fetched) totals
 
--- its totals with one more section of so many bytes
-abbrev pub oneSection : Session → ℕ → Totals
-oneSection s size = counted (s .dialect) (s .totals) size
-
--- with register 0 at an earlier offset, one retry counted, the totals put back
+-- with register 0 at an earlier offset, one retry counted
 abbrev pub goBack : Session → ℕ → Session
-goBack s offset = changed s (s .ended) (s .on) 0 offset (s .retries + 1) (s .fetched) (putBack (s .totals))
+goBack s offset = changed s (s .ended) (s .on) 0 offset (s .retries + 1) (s .fetched) (s .totals)
 
--- the checksum on, its register 0, the totals marked, and past the opcode
+-- the checksum on, its register 0, and past the opcode
 abbrev pub switchOn : Session → Session
-switchOn s = changed s (s .ended) true 0 (s .offset + 4) (s .retries) (s .fetched) (marked (s .totals))
+switchOn s = changed s (s .ended) true 0 (s .offset + 4) (s .retries) (s .fetched) (s .totals)
 
 -- the checksum off, its register kept, and past the opcode
 abbrev pub switchOff : Session → Session
@@ -72,9 +69,10 @@ unchanged q s = record { refusal = q; event = Nothing; at = 0; session = s }
 abbrev pub stopped : Refusal → Session → Called
 stopped q s = record { refusal = q; event = Nothing; at = s .offset; session = stop s }
 
--- accepted, with an event: the session s goes on as t
-abbrev pub accepted : Session → Event → Session → Called
-accepted s told t = record { refusal = None; event = told; at = s .offset; session = t }
+-- accepted, with what happened and an event: the session s goes on as t, its totals turned
+abbrev pub accepted : Session → Happening → Event → Session → Called
+accepted s happened told t =
+    record { refusal = None; event = told; at = s .offset; session = withTotals t (inFlash (s .dialect) (s .totals) happened) }
 
 -- what a call gives: its answer and the memory that it leaves
 pub record Outcome : Type 0 where

@@ -18,9 +18,10 @@ use Rattle.script.specs.declared.Found.{Found}
 use Rattle.script.specs.declared.Found.the-variants.{Known, Retired, Unknown}
 use Rattle.script.specs.declared.Mode.the-variants.{Flash}
 use Rattle.script.specs.declared.Refusal.the-variants as refusal
-use Rattle.totals.specs.Totals.{standing, wouldPass, differs, marked}
+use Rattle.totals.specs.Totals.{standing, wouldPass, differs}
+use Rattle.totals.specs.declared.Happening.{Happening}
+use Rattle.totals.specs.declared.Happening.the-variants as happening
 use Rattle.totals.specs.declared.Standing.{Standing}
-use Rattle.totals.specs.declared.Totals.{Totals}
 use Rattle.commands.specs.Commands.{barred, loadJudged, loaded, loadFed, fillJudged, fillDone, fillMemory, settingJudged, settingDone, settingMemory, entryJudged, closeDone, soughtFrom}
 use Rattle.commands.specs.declared.Done.{Done}
 use Rattle.commands.specs.declared.Judged.{Judged}
@@ -28,7 +29,7 @@ use Rattle.commands.specs.declared.Judged.the-variants.{Granted, Refused}
 use Rattle.commands.specs.declared.Sought.{Sought}
 use Rattle.commands.specs.declared.Sought.the-variants as sought
 use Rattle.flash.specs.Opening.{goodLength}
-use Rattle.flash.specs.Sessions.{Outcome, _leaving_, stop, goTo, withTotals, oneSection, goBack, switchOn, switchOff, fetching, unchanged, stopped, accepted}
+use Rattle.flash.specs.Sessions.{Outcome, _leaving_, stop, goTo, goBack, switchOn, switchOff, fetching, unchanged, stopped, accepted}
 use Rattle.flash.specs.declared.Called.{Called}
 use Rattle.flash.specs.declared.Session.{Session}
 
@@ -44,11 +45,11 @@ wordsFrom image at = (length image - at) / 4
 unfoldable pub argument : Session → List ℕ → ℕ → ℕ
 argument s image i = wordAt image (s .offset + 4 + 4 * i)
 
--- a command of n words that was judged and done: refused it ends the session, accepted it goes on past its words, with these totals
-unfoldable pub after : Session → Totals → Done → ℕ → Called
-after s totals done n =
+-- a command of n words that was judged and done: refused it ends the session, accepted it goes on past its words, and this has happened
+unfoldable pub after : Session → Happening → Done → ℕ → Called
+after s happened done n =
     pick (eqb (numberOf (done .refusal)) 0)
-    (accepted s (done .event) (goTo (withTotals s totals) (done .register) (s .offset + 4 * n)))
+    (accepted s happened (done .event) (goTo s (done .register) (s .offset + 4 * n)))
     (stopped (done .refusal) s)
 
 -- 18, of a load or a fill of so many bytes that was judged
@@ -59,8 +60,8 @@ overflowing s size judged = barred (wouldPass (s .dialect) (s .totals) size) ref
 unfoldable pub loadAt : Session → List ℕ → List ℕ → ℕ → ℕ → ℕ → Outcome
 loadAt s m image address size place =
     pick (not (present image (s .offset + 12) ((size + 3) / 4))) (stopped refusal.Missing s leaving m)
-    (accepted s Nothing
-    (goTo (withTotals (fetching ((size + 3) / 4) s) (oneSection s size)) (pick (s .on) (loadFed (s .register) address (bytesAt image (s .offset + 12) size)) (s .register))
+    (accepted s (happening.Section size) Nothing
+    (goTo (fetching ((size + 3) / 4) s) (pick (s .on) (loadFed (s .register) address (bytesAt image (s .offset + 12) size)) (s .register))
     (s .offset + 12 + 4 * ((size + 3) / 4)))
     leaving loaded m place (bytesAt image (s .offset + 12) size))
 
@@ -72,22 +73,22 @@ loadJudgedAs s m image address size (Refused q) = stopped q s leaving m
 -- a fill by its judgement: .., 7, 18; accepted it is counted
 abbrev pub fillJudgedAs : Session → List ℕ → ℕ → ℕ → ℕ → ℕ → Judged → Outcome
 fillJudgedAs s m address size kind pattern judged =
-    after s (oneSection s size) (fillDone judged (s .on) (s .register) address size kind pattern) 5 leaving fillMemory judged m size kind pattern
+    after s (happening.Section size) (fillDone judged (s .on) (s .register) address size kind pattern) 5 leaving fillMemory judged m size kind pattern
 
 -- a setting by its judgement; it is not counted
 abbrev pub settingJudgedAs : Session → List ℕ → ℕ → ℕ → ℕ → Judged → Outcome
 settingJudgedAs s m word value delay judged =
-    after s (s .totals) (settingDone judged (s .register) delay) 5 leaving settingMemory judged m word value
+    after s happening.Other (settingDone judged (s .register) delay) 5 leaving settingMemory judged m word value
 
 -- a mismatch by where its seek leads: one retry is counted, or 12; the register becomes 0 either way
 abbrev pub soughtAs : Session → Sought → Called
-soughtAs s (sought.To offset) = accepted s Nothing (goBack s offset)
+soughtAs s (sought.To offset) = accepted s happening.Retried Nothing (goBack s offset)
 soughtAs s (sought.Refused q) = stopped q (goTo s 0 (s .offset))
 
--- Request: a match goes on, the totals marked; a mismatch with retries spent is 11; else the seek. The register becomes 0 in each case
+-- Request: a match goes on; a mismatch with retries spent is 11; else the seek. The register becomes 0 in each case
 unfoldable pub requested : Session → ℕ → ℕ → Called
 requested s expected seek =
-    pick (eqb expected (s .register)) (accepted s Nothing (goTo (withTotals s (marked (s .totals))) 0 (s .offset + 12)))
+    pick (eqb expected (s .register)) (accepted s happening.Passed Nothing (goTo s 0 (s .offset + 12)))
     (pick (leb (s .limit) (s .retries)) (stopped refusal.Checksum (goTo s 0 (s .offset)))
     (soughtAs s (soughtFrom (s .offset) seek)))
 
@@ -108,7 +109,7 @@ entered a = record { refusal = a .refusal; event = a .event; at = a .at; session
 abbrev pub closed : Session → ℕ → Standing → Called
 closed s address totals =
     entered
-    (after s (s .totals)
+    (after s happening.Other
     (closeDone (barred (differs (s .dialect) (s .totals) totals) refusal.Totals (entryJudged (s .windows) address)) (s .register) address)
     (closeWords (s .dialect)))
 
@@ -123,13 +124,13 @@ performed command.Fill s m image =
 performed command.BootTable s m image =
     settingJudgedAs s m (argument s image 0) (argument s image 2) (argument s image 3)
     (settingJudged (s .windows) (argument s image 0) (argument s image 1) (argument s image 2))
-performed command.Enable s m image = accepted s Nothing (switchOn s) leaving m
-performed command.Disable s m image = accepted s Nothing (switchOff s) leaving m
+performed command.Enable s m image = accepted s happening.Enable Nothing (switchOn s) leaving m
+performed command.Disable s m image = accepted s happening.Other Nothing (switchOff s) leaving m
 performed command.Request s m image = requested s (argument s image 0) (argument s image 1) leaving m
 performed command.StartOver s m image = stopped refusal.Opcode s leaving m
 performed command.JumpAndClose s m image = closed s (argument s image 0) (named s image) leaving m
 performed command.Ping s m image = stopped refusal.Opcode s leaving m
-performed command.SequentialRead s m image = accepted s Nothing (goTo s (s .register) (s .offset + 4)) leaving m
+performed command.SequentialRead s m image = accepted s happening.Other Nothing (goTo s (s .register) (s .offset + 4)) leaving m
 
 -- 6 or 15, then 5 for the arguments; the opcode is fetched, and the argument words that are there
 abbrev pub atRow : Session → List ℕ → List ℕ → Found → Outcome

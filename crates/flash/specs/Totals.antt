@@ -12,8 +12,10 @@ use Rattle.script.specs.declared.Dialect.the-variants.{Am17xx, Dm648}
 use Rattle.script.specs.declared.Found.{Found}
 use Rattle.script.specs.declared.Found.the-variants.{Known, Retired, Unknown}
 use Rattle.script.specs.declared.Mode.the-variants.{Flash}
-use Rattle.totals.specs.Agreement.{Happening, section, enable, passed, retried, other, plus}
+use Rattle.totals.specs.Agreement.{plus}
 use Rattle.totals.specs.Totals.{nothing, atOpening}
+use Rattle.totals.specs.declared.Happening.{Happening}
+use Rattle.totals.specs.declared.Happening.the-variants as happened
 use Rattle.totals.specs.declared.Totals.{Totals}
 use Rattle.flash.specs.Calls.{happening}
 use Rattle.flash.specs.Opening.{begun}
@@ -39,11 +41,11 @@ afterCalls s (lent ∷ rest) = afterCalls (answerTo s lent .session) rest
 
 -- the size of a load or a fill; nothing else has one
 abbrev pub sizesIn : Happening → List ℕ
-sizesIn (section size) = size ∷ []
-sizesIn enable = []
-sizesIn passed = []
-sizesIn retried = []
-sizesIn other = []
+sizesIn (happened.Section size) = size ∷ []
+sizesIn happened.Enable = []
+sizesIn happened.Passed = []
+sizesIn happened.Retried = []
+sizesIn happened.Other = []
 
 -- so of what the table finds
 abbrev pub sizesFound : Found → ℕ → List ℕ

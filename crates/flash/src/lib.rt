@@ -6,7 +6,7 @@ ghost use lib.Dec.{eqb};
 ghost use lib.ListN.{length};
 ghost use Rattle.commands.specs.Commands.{soughtFrom};
 ghost use Rattle.flash.specs.Opening.{goodLength, begun, refusedBy, openedBy};
-ghost use Rattle.flash.specs.Sessions.{goTo, withTotals, oneSection, switchOn, switchOff, countedOn, fetching, unchanged, stopped, accepted};
+ghost use Rattle.flash.specs.Sessions.{goTo, switchOn, switchOff, countedOn, fetching, unchanged, stopped, accepted};
 ghost use Rattle.flash.specs.Step.{argument, after, overflowing, loadAt, soughtAs, requested, named, closeWords, closed, performed, atRow, stepOf};
 use commands::Done;
 use commands::Judged;
@@ -18,6 +18,7 @@ use script::Found;
 use script::Mode;
 use script::Refusal;
 use totals::Bytes;
+use totals::Happening;
 use totals::Sections;
 use totals::Standing;
 use totals::Totals;
@@ -210,16 +211,21 @@ fn halt(refusal: Refusal, session: Session) -> Called
     }
 }
 
-// Accepted, the session going on as `next`.
-fn proceed(session: Session, event: Event, next: Session) -> Called
-    ensures { λ r. ⌜ r ≡ accepted session event next ⌝ }
+// Accepted, the session going on as `next`: what happened turns the totals, here and nowhere else.
+fn proceed(session: Session, happening: Happening, event: Event, next: Session) -> Called
+    ensures { λ r. ⌜ r ≡ accepted session happening event next ⌝ }
 {
     let refusal = Refusal::None;
+    let dialect = session.dialect;
+    let totals = session.totals;
+    let turned = totals.happen(dialect, happening);
+    let mut gone = next;
+    gone.totals = turned;
     Called {
         refusal,
         event,
         at: session.offset,
-        session: next,
+        session: gone,
     }
 }
 
@@ -231,24 +237,6 @@ fn moved(session: Session, register: u32, offset: u32) -> Session
     next.register = register;
     next.offset = offset;
     next
-}
-
-// The session with other totals.
-fn with_totals(session: Session, totals: Totals) -> Session
-    ensures { λ r. ⌜ r ≡ withTotals session totals ⌝ }
-{
-    let mut next = session;
-    next.totals = totals;
-    next
-}
-
-// The totals with one more section of so many bytes.
-fn one_section(session: Session, size: u32) -> Totals
-    ensures { λ r. ⌜ r ≡ oneSection session size ⌝ }
-{
-    let dialect = session.dialect;
-    let totals = session.totals;
-    totals.count(dialect, size)
 }
 
 // 18, of a load or a fill that was judged.
@@ -286,17 +274,17 @@ fn argument_word(session: Session, image: &[u8], i: u32) -> u32
     words::word_at(image, (session.offset as usize) + 4 + 4 * (i as usize))
 }
 
-// The answer to a command of so many words that was judged and done; accepted it leaves these totals.
-fn finish(session: Session, totals: Totals, done: Done, words: u32) -> Called
+// The answer to a command of so many words that was judged and done; accepted, this has happened.
+fn finish(session: Session, happening: Happening, done: Done, words: u32) -> Called
     requires { ⌜ session .offset + 4 * words < 2 ^ 32 ⌝ }
-    ensures { λ r. ⌜ r ≡ after session totals done words ⌝ }
+    ensures { λ r. ⌜ r ≡ after session happening done words ⌝ }
 {
     let refusal = done.refusal;
     let event = done.event;
     if refusal.number() == 0 {
         let offset = session.offset + 4 * words;
-        let next = moved(with_totals(session, totals), done.register, offset);
-        return proceed(session, event, next);
+        let next = moved(session, done.register, offset);
+        return proceed(session, happening, event, next);
     }
     halt(refusal, session)
 }
@@ -329,12 +317,8 @@ fn load_at(
         address,
         &image[from..to],
     );
-    let counted = with_totals(fetch(session, words as u32), one_section(session, size));
-    proceed(
-        session,
-        Event::Nothing,
-        moved(counted, register, end as u32),
-    )
+    let past = moved(fetch(session, words as u32), register, end as u32);
+    proceed(session, Happening::Section(size), Event::Nothing, past)
 }
 
 // Load.
@@ -377,7 +361,7 @@ fn fill(session: Session, memory: &mut [u8], image: &[u8]) -> Called
         kind,
         pattern,
     );
-    finish(session, one_section(session, size), done, 5)
+    finish(session, Happening::Section(size), done, 5)
 }
 
 // Boot Table.
@@ -393,46 +377,43 @@ fn boot_table(session: Session, memory: &mut [u8], image: &[u8]) -> Called
     let windows = session.windows;
     let judged = commands::judge_setting(windows, word, address, value);
     let done = commands::boot_table(memory, judged, session.register, word, value, delay);
-    let totals = session.totals;
-    finish(session, totals, done, 5)
+    finish(session, Happening::Other, done, 5)
 }
 
-// Enable: the checksum on, its register 0, the mark is now.
+// Enable: the checksum on, its register 0.
 fn enable(session: Session) -> Called
     requires { ⌜ session .offset ≤ 65536 ⌝ }
-    ensures { λ r. ⌜ r ≡ accepted session Event.Nothing (switchOn session) ⌝ }
+    ensures { λ r. ⌜ r ≡ accepted session Happening.Enable Event.Nothing (switchOn session) ⌝ }
 {
     let mut next = moved(session, 0, session.offset + 4);
     next.on = true;
-    let totals = session.totals;
-    let marked = totals.mark();
-    next.totals = marked;
-    proceed(session, Event::Nothing, next)
+    proceed(session, Happening::Enable, Event::Nothing, next)
 }
 
 // Disable: the checksum off, its register kept.
 fn disable(session: Session) -> Called
     requires { ⌜ session .offset ≤ 65536 ⌝ }
-    ensures { λ r. ⌜ r ≡ accepted session Event.Nothing (switchOff session) ⌝ }
+    ensures { λ r. ⌜ r ≡ accepted session Happening.Other Event.Nothing (switchOff session) ⌝ }
 {
     let mut next = moved(session, session.register, session.offset + 4);
     next.on = false;
-    proceed(session, Event::Nothing, next)
+    proceed(session, Happening::Other, Event::Nothing, next)
 }
 
 // Sequential Read Enable: no effect.
 fn pass_over(session: Session) -> Called
     requires { ⌜ session .offset ≤ 65536 ⌝ }
-    ensures { λ r. ⌜ r ≡ accepted session Event.Nothing (goTo session (session .register) (session .offset + 4)) ⌝ }
+    ensures { λ r. ⌜ r ≡ accepted session Happening.Other Event.Nothing (goTo session (session .register) (session .offset + 4)) ⌝ }
 {
     proceed(
         session,
+        Happening::Other,
         Event::Nothing,
         moved(session, session.register, session.offset + 4),
     )
 }
 
-// A mismatch: the seek, and a retry, which puts the totals back.
+// A mismatch: the seek, and a retry.
 fn retry(session: Session, seek: u32) -> Called
     requires { ⌜ session .retries < 255 ⌝ }
     ensures { λ r. ⌜ r ≡ soughtAs session (soughtFrom (session .offset) seek) ⌝ }
@@ -442,24 +423,20 @@ fn retry(session: Session, seek: u32) -> Called
         Sought::To(offset) => {
             let mut next = moved(session, 0, offset);
             next.retries = session.retries + 1;
-            let totals = session.totals;
-            let back = totals.put_back();
-            next.totals = back;
-            proceed(session, Event::Nothing, next)
+            proceed(session, Happening::Retried, Event::Nothing, next)
         }
         Sought::Refused(refusal) => halt(refusal, moved(session, 0, session.offset)),
     }
 }
 
-// Request: compares the register, which becomes 0 either way; on a match the mark is now.
+// Request: compares the register, which becomes 0 either way.
 fn request(session: Session, expected: u32, seek: u32) -> Called
     requires { ⌜ session .offset ≤ 65536 ⌝ }
     ensures { λ r. ⌜ r ≡ requested session expected seek ⌝ }
 {
     if expected == session.register {
-        let totals = session.totals;
-        let next = with_totals(session, totals.mark());
-        return proceed(session, Event::Nothing, moved(next, 0, session.offset + 12));
+        let next = moved(session, 0, session.offset + 12);
+        return proceed(session, Happening::Passed, Event::Nothing, next);
     }
     if session.limit <= session.retries {
         return halt(Refusal::Checksum, moved(session, 0, session.offset));
@@ -502,7 +479,7 @@ fn jump_and_close(session: Session, address: u32, named: Standing) -> Called
     );
     let last = finish(
         session,
-        totals,
+        Happening::Other,
         commands::jump_and_close(judged, session.register, address),
         close_words(dialect),
     );

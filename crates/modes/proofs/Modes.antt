@@ -23,7 +23,9 @@ use Rattle.script.specs.declared.Mode.the-variants.{Flash, Sent}
 use Rattle.script.specs.declared.Refusal.{Refusal}
 use Rattle.script.specs.declared.Refusal.the-variants.{None}
 use Rattle.script.proofs.Counts.{rowIs, row-is}
-use Rattle.totals.specs.Totals.{counted, marked, settled}
+use Rattle.totals.specs.Totals.{counted, marked, settled, inFlash}
+use Rattle.totals.specs.declared.Happening.{Happening}
+use Rattle.totals.specs.declared.Happening.the-variants as happened
 use Rattle.totals.specs.declared.Totals.{Totals}
 use Rattle.totals.proofs.Laws.{stays, settled-asks-nothing, settled-once, marked-settled, settled-asking, counted-keeps}
 use Rattle.commands.specs.Commands.{loadJudged, loaded, loadFed, soughtFrom}
@@ -96,19 +98,24 @@ counted-settled dialect t size = sym (stays _ (counted-keeps dialect (settled t)
 marked-stays : (t : Totals) → marked (settled t) ≡ settled (marked t)
 marked-stays t = marked-settled t ∙ sym (stays (marked t) refl)
 
-module _ (k : Core) (totals : Totals) (same : totals ≡ settled (k .tally .totals)) (left : Totals) (still : left ≡ settled left) (offset size limit retries fetched : ℕ) where
+module _ (k : Core) (totals : Totals) (same : totals ≡ settled (k .tally .totals)) (h : Happening)
+    (still : inFlash (k .dialect) totals h ≡ settled (inFlash (k .dialect) totals h)) (offset size limit retries fetched : ℕ) where
+  -- what the totals are where it is accepted
+  abbrev left : Totals
+  left = inFlash (k .dialect) totals h
+
   abbrev s : Session
   s = like k totals offset size limit retries fetched
 
   -- a command that was judged and done
   done-same : (done : Done) (n : ℕ) (memory : List ℕ)
-      → Same (flash._leaving_ (step.after s left done n) memory) (machine._leaving_ (machine.after k left done) memory)
+      → Same (flash._leaving_ (step.after s h done n) memory) (machine._leaving_ (machine.after k left done) memory)
   unfolding step.after machine.after pick
   done-same done n memory = go (eqb (numberOf (done .refusal)) 0)
     where
       go : (t : Bool) → Same
           (flash._leaving_
-          (pick t (flash.accepted s (done .event) (flash.goTo (flash.withTotals s left) (done .register) (offset + 4 * n))) (flash.stopped (done .refusal) s)) memory)
+          (pick t (flash.accepted s h (done .event) (flash.goTo s (done .register) (offset + 4 * n))) (flash.stopped (done .refusal) s)) memory)
           (machine._leaving_
           (pick t (record { refusal = None; reply = silence; event = done .event; core = machine.await k (machine.tallied (done .register) left) Opcode })
           (machine.refused k (done .refusal))) memory)
@@ -148,14 +155,14 @@ module _ (k : Core) (totals : Totals) (same : totals ≡ settled (k .tally .tota
 
   -- a close that was judged and done
   close-done-same : (done : Done) (n : ℕ) (memory : List ℕ)
-      → Same (flash._leaving_ (step.entered (step.after s left done n)) memory) (machine._leaving_ (machine.entered (machine.after k left done)) memory)
+      → Same (flash._leaving_ (step.entered (step.after s h done n)) memory) (machine._leaving_ (machine.entered (machine.after k left done)) memory)
   unfolding step.after machine.after machine.entered pick
   close-done-same done n memory = go (eqb (numberOf (done .refusal)) 0)
     where
       go : (t : Bool) → Same
           (flash._leaving_
           (step.entered
-          (pick t (flash.accepted s (done .event) (flash.goTo (flash.withTotals s left) (done .register) (offset + 4 * n))) (flash.stopped (done .refusal) s)))
+          (pick t (flash.accepted s h (done .event) (flash.goTo s (done .register) (offset + 4 * n))) (flash.stopped (done .refusal) s)))
           memory)
           (machine._leaving_
           (machine.entered
@@ -189,7 +196,8 @@ module _ (k : Core) (offset size limit retries fetched : ℕ) (m image : List �
   unfolding doneAtLast
   fill-same a b c d p q r t =
       rw (p, q, r, t)
-      (done-same (asking (begun command.Fill k) command.Fill 1 _) (settled (k .tally .totals)) once _ (counted-settled (k .dialect) (k .tally .totals) _) offset size limit
+      (done-same (asking (begun command.Fill k) command.Fill 1 _) (settled (k .tally .totals)) once (happened.Section (argument session image 1)) (counted-settled (k .dialect) (k .tally .totals) _)
+      offset size limit
       retries fetched _ 5 _)
 
   setting-same : (a b c d : ℕ) → a ≡ argument session image 0 → b ≡ argument session image 1 → c ≡ argument session image 2 → d ≡ argument session image 3
@@ -197,7 +205,7 @@ module _ (k : Core) (offset size limit retries fetched : ℕ) (m image : List �
   unfolding doneAtLast
   setting-same a b c d p q r t =
       rw (p, q, r, t)
-      (done-same (asking (begun command.BootTable k) command.BootTable 1 _) (settled (k .tally .totals)) once _ once offset size limit retries fetched _ 5 _)
+      (done-same (asking (begun command.BootTable k) command.BootTable 1 _) (settled (k .tally .totals)) once happened.Other once offset size limit retries fetched _ 5 _)
 
   -- where the words stand in the image
   places : (i at : ℕ) → at ≡ offset + 4 + 4 * i → wordAt image at ≡ argument session image i
@@ -213,7 +221,7 @@ module _ (k : Core) (offset size limit retries fetched : ℕ) (m image : List �
   unfolding doneAtLast
   close-am a p =
       rw p
-      (close-done-same (asking (begun command.JumpAndClose (within Am17xx k)) command.JumpAndClose 1 noneKept) (settled (k .tally .totals)) once _ once offset size limit
+      (close-done-same (asking (begun command.JumpAndClose (within Am17xx k)) command.JumpAndClose 1 noneKept) (settled (k .tally .totals)) once happened.Other once offset size limit
       retries fetched _ 2 m)
 
   close-dm : (a b c : ℕ) → a ≡ argument (in-dialect Dm648) image 0 → b ≡ argument (in-dialect Dm648) image 1 → c ≡ argument (in-dialect Dm648) image 2
@@ -222,7 +230,7 @@ module _ (k : Core) (offset size limit retries fetched : ℕ) (m image : List �
   unfolding doneAtLast
   close-dm a b c p q r =
       rw (p, q, r)
-      (close-done-same (asking (begun command.JumpAndClose (within Dm648 k)) command.JumpAndClose 1 _) (settled (k .tally .totals)) once _ once offset size limit
+      (close-done-same (asking (begun command.JumpAndClose (within Dm648 k)) command.JumpAndClose 1 _) (settled (k .tally .totals)) once happened.Other once offset size limit
       retries fetched _ 4 m)
 
   close-same : (d : Dialect) (words : ℕ) → rowIs Flash d command.JumpAndClose words ≡ true

@@ -6,18 +6,20 @@ use Rattle.words.proofs.Choice.{by-test}
 use Rattle.script.specs.declared.Command.{Command}
 use Rattle.script.specs.declared.Command.the-variants as command
 use Rattle.script.specs.declared.Dialect.{Dialect}
-use Rattle.totals.specs.Totals.{settled, turned}
-use Rattle.totals.specs.Agreement.{Happening, section, enable, passed, retried, other, inFlash, onLine, allOf, FlashAndLine, Zero, StaysZero}
+use Rattle.totals.specs.Totals.{settled, turned, inFlash}
+use Rattle.totals.specs.Agreement.{onLine, allOf, FlashAndLine, Zero, StaysZero}
+use Rattle.totals.specs.declared.Happening.{Happening}
+use Rattle.totals.specs.declared.Happening.the-variants as happening
 use Rattle.totals.specs.declared.Totals.{Totals}
 use Rattle.totals.proofs.Laws.{settles, stays, settled-asks-nothing, settled-once, marked-settled, settled-asking, counted-keeps}
 
 one : (dialect : Dialect) (t : Totals) (h : Happening) → settled (onLine dialect t h) ≡ inFlash dialect (settled t) h
 unfolding pick
-one dialect t (section size) = stays _ (counted-keeps dialect (settled t) size .1 ∙ settled-asks-nothing t)
-one dialect t enable = sym (marked-settled t)
-one dialect t passed = settled-asking (settled t)
-one dialect t retried = refl
-one dialect t other = settled-once t
+one dialect t (happening.Section size) = stays _ (counted-keeps dialect (settled t) size .1 ∙ settled-asks-nothing t)
+one dialect t happening.Enable = sym (marked-settled t)
+one dialect t happening.Passed = settled-asking (settled t)
+one dialect t happening.Retried = refl
+one dialect t happening.Other = settled-once t
 
 pub flash-and-line : FlashAndLine
 unfolding allOf

@@ -8,33 +8,19 @@ use Rattle.script.specs.declared.Command.{Command}
 use Rattle.script.specs.declared.Command.the-variants as command
 use Rattle.script.specs.declared.Dialect.{Dialect}
 use Rattle.script.specs.declared.Dialect.the-variants.{Am17xx}
-use Rattle.totals.specs.Totals.{standing, nothing, isPast, isOther, oneMore, counted, marked, settled, putBack, turned}
+use Rattle.totals.specs.Totals.{standing, nothing, isPast, isOther, oneMore, counted, settled, turned, inFlash}
+use Rattle.totals.specs.declared.Happening.{Happening}
+use Rattle.totals.specs.declared.Happening.the-variants as happening
 use Rattle.totals.specs.declared.Standing.{Standing}
 use Rattle.totals.specs.declared.Totals.{Totals}
 
--- what may happen in either mode: a load or a fill of so many bytes, an Enable, a Request that no retry follows, one that a retry follows, any other command
-pub data Happening : Type 0 where
-  section : ℕ → Happening
-  enable : Happening
-  passed : Happening
-  retried : Happening
-  other : Happening
-
--- in flash mode a Request that matches marks, and a seek puts back
-abbrev pub inFlash : Dialect → Totals → Happening → Totals
-inFlash dialect t (section size) = counted dialect t size
-inFlash dialect t enable = marked t
-inFlash dialect t passed = marked t
-inFlash dialect t retried = putBack t
-inFlash dialect t other = t
-
--- in sent mode each opcode that is taken turns them
+-- the same in sent mode, where each opcode that is taken turns them
 abbrev pub onLine : Dialect → Totals → Happening → Totals
-onLine dialect t (section size) = counted dialect (turned command.Load t) size
-onLine dialect t enable = turned command.Enable t
-onLine dialect t passed = turned command.Request t
-onLine dialect t retried = turned command.StartOver (turned command.Request t)
-onLine dialect t other = turned command.BootTable t
+onLine dialect t (happening.Section size) = counted dialect (turned command.Load t) size
+onLine dialect t happening.Enable = turned command.Enable t
+onLine dialect t happening.Passed = turned command.Request t
+onLine dialect t happening.Retried = turned command.StartOver (turned command.Request t)
+onLine dialect t happening.Other = turned command.BootTable t
 
 -- several, one after the other
 unfoldable pub allOf : (Totals → Happening → Totals) → Totals → List Happening → Totals

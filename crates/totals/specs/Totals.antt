@@ -7,6 +7,8 @@ use Rattle.script.specs.declared.Command.{Command}
 use Rattle.script.specs.declared.Command.the-variants as command
 use Rattle.script.specs.declared.Dialect.{Dialect}
 use Rattle.script.specs.declared.Dialect.the-variants.{Am17xx, Dm648}
+use Rattle.totals.specs.declared.Happening.{Happening}
+use Rattle.totals.specs.declared.Happening.the-variants as happening
 use Rattle.totals.specs.declared.Standing.{Standing}
 use Rattle.totals.specs.declared.Totals.{Totals}
 
@@ -83,3 +85,11 @@ turned command.StartOver t = putBack t
 turned command.JumpAndClose t = settled t
 turned command.Ping t = settled t
 turned command.SequentialRead t = settled t
+
+-- a call that is accepted in flash mode, by what happened in it: a Request that matches marks, and a seek puts back
+abbrev pub inFlash : Dialect → Totals → Happening → Totals
+inFlash dialect t (happening.Section size) = counted dialect t size
+inFlash dialect t happening.Enable = marked t
+inFlash dialect t happening.Passed = marked t
+inFlash dialect t happening.Retried = putBack t
+inFlash dialect t happening.Other = t

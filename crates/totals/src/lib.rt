@@ -1,6 +1,6 @@
 // The running totals of a session, their mark, and the Request that waits to be settled.
 ghost use mathlib.Core.Path.{_≡_};
-ghost use Rattle.totals.specs.Totals.{nothing, atOpening, isPast, wouldPass, isOther, differs, oneMore, withNow, counted, marked, settled, asking, putBack, turned};
+ghost use Rattle.totals.specs.Totals.{nothing, atOpening, isPast, wouldPass, isOther, differs, oneMore, withNow, counted, marked, settled, asking, putBack, turned, inFlash};
 use script::Command;
 use script::Dialect;
 
@@ -21,6 +21,16 @@ pub struct Totals {
     pub now: Standing,
     pub mark: Standing,
     pub asked: bool,
+}
+
+// What a flash call that is accepted may be to the totals: a load or a fill of so many bytes, an Enable, a Request that matches, one that leads to a retry, any
+// other command.
+pub enum Happening {
+    Section(u32),
+    Enable,
+    Passed,
+    Retried,
+    Other,
 }
 
 impl Totals {
@@ -133,6 +143,19 @@ impl Totals {
             Command::JumpAndClose => self.settle(),
             Command::Ping => self.settle(),
             Command::SequentialRead => self.settle(),
+        }
+    }
+
+    // A flash call is accepted: what happened in it.
+    pub fn happen(self, dialect: Dialect, happening: Happening) -> Totals
+        ensures { λ r. ⌜ r ≡ inFlash dialect self happening ⌝ }
+    {
+        match happening {
+            Happening::Section(size) => self.count(dialect, size),
+            Happening::Enable => self.mark(),
+            Happening::Passed => self.mark(),
+            Happening::Retried => self.put_back(),
+            Happening::Other => self,
         }
     }
 }

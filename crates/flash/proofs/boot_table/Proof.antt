@@ -32,11 +32,11 @@ same-length : tie.Need-same-length
 same-length c = search needs
 
 returns : tie.Need-returns
-returns c = let a = c .before .before .before .before .before .before .before .before .before .before .before .before .before .before .args in
-    let read = setting-read (a .session) (now (a .memory)) (now (a .image)) (c .before .before .before .before .before .before .before .before .before .before .before .argument-word .ensures) (c .before .before .before .before .before .before .before .before .before .before .argument-word2 .ensures)
-    (c .before .before .before .before .before .before .before .before .before .argument-word3 .ensures) (c .before .before .before .before .before .before .before .before .argument-word4 .ensures) (c .before .before .before .before .before .before .judge-setting .ensures) in (
-      rw (c .finish .ensures, c .before .before .before .before .boot-table .ensures .0) (ap (λ (o : Outcome). o .answer) read),
-      c .before .before .before .before .boot-table .ensures .1 ∙ ap (λ (o : Outcome). o .memory) read,
+returns c = let a = c .before .before .before .before .before .before .before .before .before .before .before .before .before .args in
+    let read = setting-read (a .session) (now (a .memory)) (now (a .image)) (c .before .before .before .before .before .before .before .before .before .before .argument-word .ensures) (c .before .before .before .before .before .before .before .before .before .argument-word2 .ensures)
+    (c .before .before .before .before .before .before .before .before .argument-word3 .ensures) (c .before .before .before .before .before .before .before .argument-word4 .ensures) (c .before .before .before .before .before .judge-setting .ensures) in (
+      rw (c .finish .ensures, c .before .before .before .boot-table .ensures .0) (ap (λ (o : Outcome). o .answer) read),
+      c .before .before .before .boot-table .ensures .1 ∙ ap (λ (o : Outcome). o .memory) read,
     )
 
 pub boot-table-spec : {M : Type 1} → statement M

@@ -1,4 +1,4 @@
--- `flash::enable` meets its contract: the session is moved past the opcode, its totals are marked, and it is otherwise as the definition says.
+-- `flash::enable` meets its contract: the session is moved past the opcode and is otherwise as the definition says.
 use borrow.Author.Needs.{needs}
 use Rattle.flash.proofs.enable.Statement.{statement}
 use Rattle.flash.proofs.enable.Tie as tie
@@ -9,14 +9,11 @@ add-moved c = search needs
 moved-requires : tie.Need-moved-requires
 moved-requires c κs = search needs
 
-mark-requires : tie.Need-mark-requires
-mark-requires c κs = search needs
-
 proceed-requires : tie.Need-proceed-requires
 proceed-requires c κs = search needs
 
 returns : tie.Need-returns
-returns c = rw (c .proceed .ensures, c .before .mark .ensures, c .before .before .before .moved .ensures)
+returns c = rw (c .proceed .ensures, c .before .moved .ensures)
 
 pub enable-spec : {M : Type 1} → statement M
-enable-spec = tie.close (tie.spec add-moved moved-requires mark-requires proceed-requires returns)
+enable-spec = tie.close (tie.spec add-moved moved-requires proceed-requires returns)

@@ -31,22 +31,19 @@ overflow-requires c κs = search needs
 fill-requires : tie.Need-fill-requires
 fill-requires c κs = search needs
 
-one-section-requires : tie.Need-one-section-requires
-one-section-requires c κs = search needs
-
 finish-requires : tie.Need-finish-requires
-finish-requires c κs = omega (arith, c .before .before .before .before .before .before .before .before .before .before .before .before .before .before .pre)
+finish-requires c κs = omega (arith, c .before .before .before .before .before .before .before .before .before .before .before .before .before .pre)
 
 same-length : tie.Need-same-length
 same-length c = search needs
 
 returns : tie.Need-returns
-returns c = let a = c .before .before .before .before .before .before .before .before .before .before .before .before .before .before .before .args in
-    let judged = c .before .before .before .before .before .before .overflow .ensures ∙ ap (λ (j : Judged). overflowing (a .session) (c .before .before .before .before .before .before .before .before .before .before .before .argument-word2 .result) j) (c .before .before .before .before .before .before .before .judge-fill .ensures) in
-    let read = fill-read (a .session) (now (a .memory)) (now (a .image)) (c .before .before .before .before .before .before .before .before .before .before .before .before .argument-word .ensures) (c .before .before .before .before .before .before .before .before .before .before .before .argument-word2 .ensures)
-    (c .before .before .before .before .before .before .before .before .before .before .argument-word3 .ensures) (c .before .before .before .before .before .before .before .before .before .argument-word4 .ensures) judged in (
-      rw (c .finish .ensures, c .before .one-section .ensures, c .before .before .before .before .fill .ensures .0) (ap (λ (o : Outcome). o .answer) read),
-      c .before .before .before .before .fill .ensures .1 ∙ ap (λ (o : Outcome). o .memory) read,
+returns c = let a = c .before .before .before .before .before .before .before .before .before .before .before .before .before .before .args in
+    let judged = c .before .before .before .before .before .overflow .ensures ∙ ap (λ (j : Judged). overflowing (a .session) (c .before .before .before .before .before .before .before .before .before .before .argument-word2 .result) j) (c .before .before .before .before .before .before .judge-fill .ensures) in
+    let read = fill-read (a .session) (now (a .memory)) (now (a .image)) (c .before .before .before .before .before .before .before .before .before .before .before .argument-word .ensures) (c .before .before .before .before .before .before .before .before .before .before .argument-word2 .ensures)
+    (c .before .before .before .before .before .before .before .before .before .argument-word3 .ensures) (c .before .before .before .before .before .before .before .before .argument-word4 .ensures) judged in (
+      rw (c .finish .ensures, c .before .before .before .fill .ensures .0) (ap (λ (o : Outcome). o .answer) read),
+      c .before .before .before .fill .ensures .1 ∙ ap (λ (o : Outcome). o .memory) read,
     )
 
 pub fill-spec : {M : Type 1} → statement M
@@ -60,7 +57,6 @@ fill-spec =
     judge-fill-requires
     overflow-requires
     fill-requires
-    one-section-requires
     finish-requires
     same-length
     returns)

@@ -16,9 +16,6 @@ mul-offset c = search needs
 add-offset : tie.Need-add-offset
 add-offset c = search needs
 
-with-totals-requires : tie.Need-with-totals-requires
-with-totals-requires c κs = search needs
-
 moved-requires : tie.Need-moved-requires
 moved-requires c κs = search needs
 
@@ -27,8 +24,8 @@ proceed-requires c κs = search needs
 
 returns : tie.Need-returns
 unfolding after
-returns c = rw (c .proceed .ensures, c .before .moved .ensures, c .before .before .with-totals .ensures)
-    (sym (chosen _ _ _ (eq-eqb _ _ (sym (c .before .before .before .before .before .number .ensures) ∙ c .before .before .before .before .if1 .taken))))
+returns c = rw (c .proceed .ensures, c .before .moved .ensures)
+    (sym (chosen _ _ _ (eq-eqb _ _ (sym (c .before .before .before .before .number .ensures) ∙ c .before .before .before .if1 .taken))))
 
 halt-requires : tie.Need-halt-requires
 halt-requires c κs = search needs
@@ -44,7 +41,6 @@ finish-spec =
     number-requires
     mul-offset
     add-offset
-    with-totals-requires
     moved-requires
     proceed-requires
     returns

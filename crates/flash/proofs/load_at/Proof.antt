@@ -62,14 +62,8 @@ cast-fetch c = search needs
 fetch-requires : tie.Need-fetch-requires
 fetch-requires c κs = search needs
 
-one-section-requires : tie.Need-one-section-requires
-one-section-requires c κs = search needs
-
-with-totals-requires : tie.Need-with-totals-requires
-with-totals-requires c κs = search needs
-
 cast-moved : tie.Need-cast-moved
-cast-moved c = omega (arith, c .before .before .before .before .before .before .before .before .if1 .left, c .before .before .before .before .before .before .before .before .before .before .before .before .pre)
+cast-moved c = omega (arith, c .before .before .before .before .before .before .if1 .left, c .before .before .before .before .before .before .before .before .before .before .pre)
 
 moved-requires : tie.Need-moved-requires
 moved-requires c κs = search needs
@@ -81,10 +75,10 @@ same-length : tie.Need-same-length
 same-length c = search needs
 
 returns-2 : tie.Need-returns-2
-returns-2 c = let a = c .before .before .before .before .before .before .before .before .before .before .before .before .before .before .args in
-    let whole = load-whole (a .session) (now (a .memory)) (now (a .image)) (a .address) (a .size) (a .place) (c .before .before .before .before .before .before .before .before .before .before .if1 .left) in
-    let done = rw (part (now (a .image)) (a .session .offset + 12) (a .size)) at (c .before .before .before .before .before .before .before .load .ensures) in (
-      rw (c .proceed .ensures, c .before .moved .ensures, c .before .before .with-totals .ensures, c .before .before .before .one-section .ensures, c .before .before .before .before .fetch .ensures, done .0)
+returns-2 c = let a = c .before .before .before .before .before .before .before .before .before .before .before .before .args in
+    let whole = load-whole (a .session) (now (a .memory)) (now (a .image)) (a .address) (a .size) (a .place) (c .before .before .before .before .before .before .before .before .if1 .left) in
+    let done = rw (part (now (a .image)) (a .session .offset + 12) (a .size)) at (c .before .before .before .before .before .load .ensures) in (
+      rw (c .proceed .ensures, c .before .moved .ensures, c .before .before .fetch .ensures, done .0)
           (sym (ap (λ (o : Outcome). o .answer) whole)),
       done .1 ∙ sym (ap (λ (o : Outcome). o .memory) whole),
     )
@@ -107,8 +101,6 @@ load-at-spec =
     load-requires
     cast-fetch
     fetch-requires
-    one-section-requires
-    with-totals-requires
     cast-moved
     moved-requires
     proceed-requires

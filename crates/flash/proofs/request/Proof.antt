@@ -7,12 +7,6 @@ use Rattle.flash.specs.Step.{requested}
 use Rattle.flash.proofs.request.Statement.{statement}
 use Rattle.flash.proofs.request.Tie as tie
 
-mark-requires : tie.Need-mark-requires
-mark-requires c κs = search needs
-
-with-totals-requires : tie.Need-with-totals-requires
-with-totals-requires c κs = search needs
-
 add-moved : tie.Need-add-moved
 add-moved c = search needs
 
@@ -24,8 +18,8 @@ proceed-requires c κs = search needs
 
 returns : tie.Need-returns
 unfolding requested
-returns c = rw (c .proceed .ensures, c .before .moved .ensures, c .before .before .before .with-totals .ensures, c .before .before .before .before .mark .ensures)
-    (sym (chosen _ _ _ (eq-eqb _ _ (c .before .before .before .before .before .before .if1 .taken))))
+returns c = rw (c .proceed .ensures, c .before .moved .ensures)
+    (sym (chosen _ _ _ (eq-eqb _ _ (c .before .before .before .if1 .taken))))
 
 moved-requires-2 : tie.Need-moved-requires-2
 moved-requires-2 c κs = search needs
@@ -49,8 +43,6 @@ pub request-spec : {M : Type 1} → statement M
 request-spec =
     tie.close
     (tie.spec
-    mark-requires
-    with-totals-requires
     add-moved
     moved-requires
     proceed-requires

@@ -17,9 +17,6 @@ moved-requires c κs = search needs
 add-next : tie.Need-add-next
 add-next c = search needs
 
-put-back-requires : tie.Need-put-back-requires
-put-back-requires c κs = search needs
-
 proceed-requires : tie.Need-proceed-requires
 proceed-requires c κs = search needs
 
@@ -33,7 +30,7 @@ halt-requires : tie.Need-halt-requires
 halt-requires c κs = search needs
 
 returns : tie.Need-returns
-returns c = rw (c .proceed .ensures, c .before .put-back .ensures, c .before .before .before .before .moved .ensures) (ap (soughtAs (c .before .before .before .before .before .before .before .before .before .args .session)) (sym (c .before .before .before .before .before .before .led .given .1) ∙ c .before .before .before .before .before .before .before .before .seek .ensures))
+returns c = rw (c .proceed .ensures, c .before .before .moved .ensures) (ap (soughtAs (c .before .before .before .before .before .before .before .args .session)) (sym (c .before .before .before .before .led .given .1) ∙ c .before .before .before .before .before .before .seek .ensures))
 
 returns-2 : tie.Need-returns-2
 returns-2 c = rw (c .halt .ensures, c .before .moved2 .ensures) (ap (soughtAs (c .before .before .before .before .before .before .args .session)) (sym (c .before .before .before .led2 .given .1) ∙ c .before .before .before .before .before .seek .ensures))
@@ -46,7 +43,6 @@ retry-spec =
     enum-known-led
     moved-requires
     add-next
-    put-back-requires
     proceed-requires
     enum-known-led-2
     moved-requires-2
