@@ -50,6 +50,27 @@ uint64_t ais_dm648_session(uint8_t line, const uint8_t *map, size_t map_len, uin
 uint64_t ais_dm648_run(const uint8_t *map, size_t map_len, uint8_t *memory, size_t memory_len,
                        const uint8_t *image, size_t image_len, uint8_t limit);
 
+/* A sent session, on line 0 (bytes) or 1 (halves) and in dialect 0 (AM17xx) or 1 (DM648), that also tells which
+   command wrote each bit of the words chosen last. Those are at most 64 addresses, little-endian words; each is a multiple
+   of 4, lies wholly in one window with the set right, and stands there once. The numbers are 64 bytes for each, in the same
+   order: 16 bits for each bit of the word, bit 0 first, little-endian. They are cleared at the beginning. 0 says that no
+   command has written the bit. Accepted loads, fills and settings are numbered from 1; where a Start-Over takes the
+   totals of a DM648 back, the next number goes back with them, in either dialect, while the bits keep the number that
+   they were written by.
+   Refused before the first unit, with count 0 and nothing changed: 19 for a line or a dialect that there is not, 1 for
+   the map, 24 for the chosen words (also bytes that are no whole words), 2 for a length of the memory or of the numbers,
+   19 as in the other sessions, in this order. Then as these; and a command whose number would be 65,536 is refused with
+   25, behind all its other refusals, which what one session can be fed never comes to. */
+uint64_t ais_bits_session(uint8_t line, uint8_t dialect, const uint8_t *map, size_t map_len, const uint8_t *chosen,
+                          size_t chosen_len, uint8_t *memory, size_t memory_len, uint8_t *numbers, size_t numbers_len,
+                          const uint8_t *fed, size_t fed_len, uint8_t *room, size_t room_len);
+
+/* The same of a flash run. Refused before the first command, with the other parts 0 and nothing changed: 19 for a
+   dialect that there is not, 1, 24, 3, 4, 2, in this order. Then as ais_flash_run and ais_dm648_run, and 25 as above. */
+uint64_t ais_bits_run(uint8_t dialect, const uint8_t *map, size_t map_len, const uint8_t *chosen, size_t chosen_len,
+                      uint8_t *memory, size_t memory_len, uint8_t *numbers, size_t numbers_len, const uint8_t *image,
+                      size_t image_len, uint8_t limit);
+
 /* The same run as ais_flash_run: refusal * 2^32 + words fetched since the opening. The memory is left as
    that run leaves it. The first word of the image counts, and a word that is read again counts again.
    Never more words than (limit + 1) * (image_len / 4) are fetched. */

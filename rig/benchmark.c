@@ -14,7 +14,7 @@
 
 enum mode { BYTES, HALVES, FLASH };
 enum { MEMORY_LENGTH = 65536, SCRIPT_LIMIT = 65536, ROOM_LENGTH = 6 + 2 * SCRIPT_LIMIT };
-enum { ROUNDS = 301, FILL_COUNT = 16, SHORT_COUNT = 3200, LOAD_ROOM = 1024 };
+enum { ROUNDS = 301, FILL_COUNT = 16, SHORT_COUNT = 3200, LOAD_ROOM = 1024, MOST_CHOSEN = 64 };
 
 enum { FIRST_WORD = 0x41504954 };
 enum { LOAD = 0x58535901, ENABLE = 0x58535903, JUMP_AND_CLOSE = 0x58535906 };
@@ -30,6 +30,7 @@ struct work {
     enum work_kind kind;
     enum mode mode; /* sent by bytes or by halves, or flash */
     bool is_dm648;  /* sent only */
+    unsigned chosen; /* words of memory whose bits are numbered; bytes and flash only */
     unsigned repeats; /* runs in one measurement */
     uint8_t script[SCRIPT_LIMIT];
     size_t length;
@@ -39,6 +40,10 @@ struct loader {
     uint64_t (*sent[FLASH])(const uint8_t *, size_t, uint8_t *, size_t, const uint8_t *, size_t, uint8_t *, size_t);
     uint64_t (*dm648)(uint8_t, const uint8_t *, size_t, uint8_t *, size_t, const uint8_t *, size_t, uint8_t *, size_t);
     uint64_t (*flash)(const uint8_t *, size_t, uint8_t *, size_t, const uint8_t *, size_t, uint8_t);
+    uint64_t (*bits_sent)(uint8_t, uint8_t, const uint8_t *, size_t, const uint8_t *, size_t, uint8_t *, size_t, uint8_t *,
+                          size_t, const uint8_t *, size_t, uint8_t *, size_t);
+    uint64_t (*bits_flash)(uint8_t, const uint8_t *, size_t, const uint8_t *, size_t, uint8_t *, size_t, uint8_t *, size_t,
+                           const uint8_t *, size_t, uint8_t);
     uint8_t (*read_text)(const uint8_t *, size_t, uint8_t *, size_t);
     uint8_t (*write_text)(const uint8_t *, size_t, uint8_t *, size_t);
     uint64_t value;
@@ -49,20 +54,26 @@ struct loader {
 struct lent {
     uint8_t memory[MEMORY_LENGTH];
     uint8_t room[ROOM_LENGTH];
+    uint8_t numbers[64 * MOST_CHOSEN];
 };
 
 static struct loader proved = {.sent = {ais_sent_session, ais_half_session},
                                .dm648 = ais_dm648_session,
                                .flash = ais_flash_run,
+                               .bits_sent = ais_bits_session,
+                               .bits_flash = ais_bits_run,
                                .read_text = ais_hex_read,
                                .write_text = ais_hex_write};
 static struct loader plain = {.sent = {plain_sent_session, plain_half_session},
                               .dm648 = plain_dm648_session,
                               .flash = plain_flash_run,
+                              .bits_sent = plain_bits_session,
+                              .bits_flash = plain_bits_run,
                               .read_text = plain_hex_read,
                               .write_text = plain_hex_write};
 static struct lent lent;
 static uint8_t map[sizeof WINDOW];
+static uint8_t chosen[4 * MOST_CHOSEN];
 
 /* ---- Making the work ---- */
 
@@ -148,6 +159,13 @@ static void make_counted(struct work *work, const char *name)
     add_word(work, 4 * SHORT_COUNT);
 }
 
+/* Settings with words chosen for their bits to be numbered: those that the last settings set. */
+static void make_numbered(struct work *work, const char *name, enum mode mode, unsigned count)
+{
+    make_short(work, name, mode, BOOT_TABLE, SHORT_COUNT);
+    work->chosen = count;
+}
+
 /* Many fills of the whole memory. */
 static void make_fills(struct work *work, const char *name, uint32_t type)
 {
@@ -189,6 +207,14 @@ static double measure(struct loader *loader, const struct work *work)
             loader->value = loader->read_text(work->script, work->length, lent.memory, MEMORY_LENGTH);
         else if (work->kind == WRITE_TEXT)
             loader->value = loader->write_text(work->script, work->length, lent.room, ROOM_LENGTH);
+        else if (work->kind == RUN && work->chosen > 0)
+            loader->value =
+                loader->bits_flash(0, map, sizeof map, chosen, 4 * work->chosen, lent.memory, MEMORY_LENGTH, lent.numbers,
+                                   64 * work->chosen, work->script, work->length, 0);
+        else if (work->chosen > 0)
+            loader->value =
+                loader->bits_sent(0, 0, map, sizeof map, chosen, 4 * work->chosen, lent.memory, MEMORY_LENGTH,
+                                  lent.numbers, 64 * work->chosen, work->script, work->length, lent.room, ROOM_LENGTH);
         else if (work->kind == RUN)
             loader->value =
                 loader->flash(map, sizeof map, lent.memory, MEMORY_LENGTH, work->script, work->length, 0);
@@ -255,7 +281,7 @@ static double measure_both(const struct work *work)
 
 int main(int argument_count, char **arguments)
 {
-    static struct work works[19];
+    static struct work works[23];
     double allowed = argument_count > 1 ? strtod(arguments[1], NULL) : 1e9, highest = 0;
 
     for (unsigned index = 0; index < 3; index++)
@@ -279,6 +305,12 @@ int main(int argument_count, char **arguments)
     make_text(&works[16], "text of 65,536 digits read", READ_TEXT);
     make_text(&works[17], "65,536 bytes written as text", WRITE_TEXT);
     make_counted(&works[18], "3,200 DM648 fills of one word");
+    for (unsigned index = 0; index < MOST_CHOSEN; index++)
+        put_word(chosen + 4 * index, WINDOW[0] + 4 * (SHORT_COUNT - 1 - index));
+    make_numbered(&works[19], "sent settings, one word chosen", BYTES, 1);
+    make_numbered(&works[20], "sent settings, 64 words chosen", BYTES, MOST_CHOSEN);
+    make_numbered(&works[21], "flash settings, one word chosen", FLASH, 1);
+    make_numbered(&works[22], "flash settings, 64 words chosen", FLASH, MOST_CHOSEN);
     printf("%-32s %12s %12s %8s\n", "microseconds, medians", "proved", "plain", "ratio");
     for (unsigned index = 0; index < sizeof works / sizeof *works; index++) {
         double ratio = measure_both(&works[index]);

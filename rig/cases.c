@@ -4,7 +4,7 @@
 #include <stdio.h>
 #include <string.h>
 
-enum { FED_LIMIT = 65536, IMAGE_LIMIT = 65536, GREETING_LENGTH = 6, HEAVY_EVERY = 50000 };
+enum { FED_LIMIT = 65536, IMAGE_LIMIT = 65536, GREETING_LENGTH = 6, HEAVY_EVERY = 50000, LONG_EVERY = 7500 };
 
 /* ---- Good maps ---- */
 
@@ -311,16 +311,16 @@ static struct totals break_totals(struct writer *writer)
         totals.bytes += chance(random, 50) ? 1 : -1;
         return totals;
     case 2:
-        return (struct totals){totals.bytes, totals.sections};
+        return (struct totals){totals.bytes, totals.sections, 0};
     case 3:
         return writer->loaded.kept;
     case 4:
-        return (struct totals){0, 0};
+        return (struct totals){0, 0, 0};
     case 5:
         totals.bytes = (totals.bytes + 3) & ~(uint32_t)3;
         return totals;
     default:
-        return (struct totals){chance(random, 50) ? totals.sections : random_word(random), random_word(random)};
+        return (struct totals){chance(random, 50) ? totals.sections : random_word(random), random_word(random), 0};
     }
 }
 
@@ -910,6 +910,7 @@ static void write_seek_behind(struct writer *writer)
     write_flash_request(writer, 0, begin - ((uint32_t)writer->length + 12));
     writer->loaded.now.sections += 1;
     writer->loaded.now.bytes += size;
+    writer->loaded.now.commands += 1;
     writer->loaded.kept = writer->loaded.now;
 }
 
@@ -953,6 +954,30 @@ static void write_large_image(struct writer *writer)
     write_jump_and_close(writer, (window->first + 3) & ~(uint32_t)3);
 }
 
+/* The end of an image that goes round: what stands here a retry keeps, for a Request matches or an Enable comes; what comes
+   then it takes back; and a Request that never matches goes back to the beginning. The checksum is off all the time. */
+static void write_round_end(struct writer *writer, uint32_t begin)
+{
+    struct random_source *random = &writer->random;
+
+    if (chance(random, 70)) {
+        write_flash_request(writer, 0, random_word(random));
+    } else {
+        write_switch(writer, OPCODE_ENABLE);
+        write_switch(writer, OPCODE_DISABLE);
+    }
+    if (chance(random, 40))
+        write_good_load(writer);
+    write_flash_request(writer, 1 + random_below(random, 1000), begin - ((uint32_t)writer->length + 12));
+    write_good_jump_and_close(writer);
+}
+
+/* A limit for so many passes, or for one more. */
+static uint8_t choose_round_limit(struct random_source *random, uint32_t passes)
+{
+    return (uint8_t)(passes < 256 && chance(random, 50) ? passes : passes - 1);
+}
+
 /* What every pass of a heavy image loads: fills of the whole memory, and the rest as a fill and perhaps a short load. */
 static void write_heavy_sections(struct writer *writer, uint64_t bytes)
 {
@@ -962,33 +987,165 @@ static void write_heavy_sections(struct writer *writer, uint64_t bytes)
     for (; bytes >= MEMORY_LIMIT; bytes -= MEMORY_LIMIT)
         write_fill(writer, first, MEMORY_LIMIT, random_below(random, 3), 0);
     loaded = loaded < bytes ? loaded : (uint32_t)bytes;
-    write_fill(writer, first, (uint32_t)bytes - loaded, 0, choose_pattern(random));
+    if (bytes > 0)
+        write_fill(writer, first, (uint32_t)bytes - loaded, 0, choose_pattern(random));
     if (loaded > 0)
         write_load(writer, first, loaded);
 }
 
-/* An image that loads so many bytes by passes, which a Request that never matches brings about. What stands in each pass
-   before a Request that matches, or an Enable, a retry keeps. The checksum is off all the time. Gives back the limit. */
+/* An image that loads so many bytes by going round. Where they are 2^32 it does so by fills of 2^16 bytes alone, so that the
+   last of them would be too much by its bytes and, where commands are numbered, by its number. */
 static uint8_t write_heavy_image(struct writer *writer, uint64_t bytes)
 {
     struct random_source *random = &writer->random;
     uint32_t passes = chance(random, 30) ? 256 : 32 + random_below(random, 225), begin;
 
+    if (bytes == (uint64_t)UINT32_MAX + 1)
+        passes = (uint32_t)32 << random_below(random, 4);
     write_word(writer, FIRST_WORD);
-    write_fill(writer, writer->map->windows[0].first, (uint32_t)(bytes % passes), 0, choose_pattern(random));
+    if (bytes % passes != 0)
+        write_fill(writer, writer->map->windows[0].first, (uint32_t)(bytes % passes), 0, choose_pattern(random));
     begin = (uint32_t)writer->length;
     write_heavy_sections(writer, bytes / passes);
-    if (chance(random, 70)) {
-        write_flash_request(writer, 0, random_word(random));
-    } else {
-        write_switch(writer, OPCODE_ENABLE);
-        write_switch(writer, OPCODE_DISABLE);
+    write_round_end(writer, begin);
+    return choose_round_limit(random, passes);
+}
+
+/* Short commands that have a number. */
+static void write_numbered(struct writer *writer, uint32_t count)
+{
+    struct random_source *random = &writer->random;
+    uint32_t address = 0, size = 0;
+
+    for (; count > 0; count--) {
+        uint32_t drawn = random_below(random, 10), type = choose_setting_type(random), unit = setting_unit(type);
+        if (drawn < 5 && choose_range(writer, SET_RIGHT, unit, 4, &address, &size)) {
+            write_setting(writer, type, address, choose_setting_data(random, type), 0);
+            continue;
+        }
+        choose_range(writer, LOAD_RIGHT, 1, 8, &address, &size);
+        if (drawn < 7)
+            write_fill(writer, address, size, 0, choose_pattern(random));
+        else
+            write_load(writer, address, size);
     }
-    if (chance(random, 40)) /* what is put back */
-        write_good_load(writer);
-    write_flash_request(writer, 1 + random_below(random, 1000), begin - ((uint32_t)writer->length + 12));
-    write_good_jump_and_close(writer);
-    return (uint8_t)(passes < 256 && chance(random, 50) ? passes : passes - 1);
+}
+
+/* An image that has so many numbered commands by going round. */
+static uint8_t write_long_image(struct writer *writer, uint32_t commands)
+{
+    struct random_source *random = &writer->random;
+    uint32_t passes = chance(random, 30) ? 256 : 32 + random_below(random, 225), begin;
+
+    write_word(writer, FIRST_WORD);
+    write_numbered(writer, commands % passes);
+    begin = (uint32_t)writer->length;
+    write_numbered(writer, commands / passes);
+    write_round_end(writer, begin);
+    return choose_round_limit(random, passes);
+}
+
+/* ---- Chosen words ---- */
+
+uint32_t chosen_word(const struct choice *choice, size_t index)
+{
+    const uint8_t *bytes = choice->bytes + 4 * index;
+
+    return bytes[0] | (uint32_t)bytes[1] << 8 | (uint32_t)bytes[2] << 16 | (uint32_t)bytes[3] << 24;
+}
+
+static void add_word(struct choice *choice, uint32_t word)
+{
+    for (unsigned index = 0; index < 4; index++)
+        choice->bytes[choice->length++] = (uint8_t)(word >> (8 * index));
+}
+
+static bool has_word(const struct choice *choice, uint32_t word)
+{
+    for (size_t index = 0; index < choice->length / 4; index++)
+        if (chosen_word(choice, index) == word)
+            return true;
+    return false;
+}
+
+void choose_words(struct random_source *random, const struct map *map, struct choice *choice)
+{
+    uint32_t wanted = chance(random, 10) ? 0 : 1 + random_below(random, chance(random, 50) ? 8 : CHOICE_LIMIT);
+
+    choice->length = 0;
+    for (unsigned tried = 0; tried < 3 * wanted && choice->length < 4 * wanted; tried++) {
+        const struct window *window = &map->windows[random_below(random, map->count)];
+        uint32_t skipped = (4 - window->first % 4) % 4, words, word;
+        if ((window->rights & SET_RIGHT) == 0 || window->length < skipped + 4)
+            continue;
+        words = (window->length - skipped) / 4;
+        word = window->first + skipped + 4 * random_below(random, words > 24 && chance(random, 60) ? 24 : words);
+        if (!has_word(choice, word))
+            add_word(choice, word);
+    }
+    choice->numbers_length = choice->length / 4 * NUMBERS_OF_WORD;
+    choice->is_right = true;
+}
+
+/* A word that can't be chosen: not aligned, chosen before, over a window's end, past it or before its beginning, in a window
+   that may lack the right, or anywhere. */
+static uint32_t choose_wrong_word(struct random_source *random, const struct map *map, const struct choice *choice)
+{
+    const struct window *window = &map->windows[random_below(random, map->count)];
+    uint32_t end = window->first + window->length;
+
+    switch (random_below(random, 7)) {
+    case 0:
+        return window->first + 1 + random_below(random, 3);
+    case 1:
+        return choice->length > 0 ? chosen_word(choice, random_below(random, (uint32_t)choice->length / 4)) : end;
+    case 2:
+        return (end - 1) & ~(uint32_t)3;
+    case 3:
+        return (end + 3) & ~(uint32_t)3;
+    case 4:
+        return (window->first - 1) & ~(uint32_t)3;
+    case 5:
+        return (window->first + 3) & ~(uint32_t)3;
+    default:
+        return random_word(random) & ~(uint32_t)3;
+    }
+}
+
+/* Too many words, no whole words, or a wrong word somewhere. */
+static void break_choice(struct random_source *random, const struct map *map, struct choice *choice)
+{
+    uint32_t kind = random_below(random, 8);
+
+    choice->is_right = false;
+    if (kind == 0) {
+        const struct window *window = &map->windows[random_below(random, map->count)];
+        for (uint32_t word = (window->first + 3) & ~(uint32_t)3; choice->length < 4 * (CHOICE_LIMIT + 1); word += 4)
+            if (!has_word(choice, word))
+                add_word(choice, word);
+    } else if (kind == 1) {
+        add_word(choice, map->windows[0].first & ~(uint32_t)3);
+        choice->length -= 1 + random_below(random, 3);
+    } else {
+        uint32_t word = choose_wrong_word(random, map, choice);
+        size_t place = 4 * (size_t)random_below(random, (uint32_t)choice->length / 4 + 1);
+        if (place == choice->length)
+            choice->length += 4;
+        for (unsigned index = 0; index < 4; index++)
+            choice->bytes[place + index] = (uint8_t)(word >> (8 * index));
+    }
+    choice->numbers_length = choice->length / 4 * NUMBERS_OF_WORD;
+}
+
+static void break_numbers_length(struct random_source *random, struct choice *choice)
+{
+    const uint32_t lengths[] = {0, (uint32_t)choice->numbers_length + 1, (uint32_t)choice->numbers_length + 64,
+                                (uint32_t)choice->numbers_length - 1, (uint32_t)choice->length,
+                                random_below(random, 4096)};
+    uint32_t length = PICK(random, lengths);
+
+    choice->is_right &= length == choice->numbers_length;
+    choice->numbers_length = length <= 8192 ? length : 1;
 }
 
 /* ---- Cases ---- */
@@ -1045,12 +1202,12 @@ static uint8_t choose_limit(struct random_source *random, size_t image_length)
     return drawn < 90 ? 255 : (uint8_t)random_below(random, 256);
 }
 
-/* The number of the line, or one that no line has. */
-static uint8_t choose_line(struct random_source *random, bool has_halves, bool is_wrong)
+/* The number of a line or a dialect, or one that there is not. */
+static uint8_t choose_number(struct random_source *random, bool right, bool is_wrong)
 {
     static const uint32_t wrong[] = {2, 3, 16, 128, 129, 254, 255};
 
-    return (uint8_t)(is_wrong ? PICK(random, wrong) : has_halves);
+    return (uint8_t)(is_wrong ? PICK(random, wrong) : right);
 }
 
 /* By turns two and one byte below 2^32, 2^32 itself and one byte more. */
@@ -1062,7 +1219,19 @@ static void make_heavy_case(struct bench_case *bench_case, struct random_source 
     make_heavy_map(random, &bench_case->map);
     begin_script(script, &bench_case->map, true, false, true);
     bench_case->limit = write_heavy_image(script, bytes);
-    bench_case->memory_length = MEMORY_LIMIT;
+}
+
+/* From 65,534 commands to 65,537, in either dialect. */
+static void make_long_case(struct bench_case *bench_case, struct random_source *random, bool is_dm648)
+{
+    struct writer *script = &bench_case->script;
+
+    make_good_map(random, &bench_case->map);
+    for (unsigned index = 0; index < bench_case->map.count; index++)
+        bench_case->map.windows[index].rights = ALL_RIGHTS;
+    encode_map(&bench_case->map);
+    begin_script(script, &bench_case->map, true, false, is_dm648);
+    bench_case->limit = write_long_image(script, 65534 + random_below(random, 4));
 }
 
 static void write_some_script(struct writer *script, bool is_large)
@@ -1077,32 +1246,50 @@ static void write_some_script(struct writer *script, bool is_large)
         write_sent_script(script);
 }
 
+static void make_usual_case(struct bench_case *bench_case, struct random_source *random, bool is_dm648)
+{
+    struct writer *script = &bench_case->script;
+    bool is_flash = bench_case->number % 2 != 0, is_large = random_below(random, 400) == 0;
+    uint32_t wrong_percent = chance(random, 3) ? 50 : 2; /* at times several things are wrong at once */
+
+    choose_map(random, &bench_case->map, is_large);
+    begin_script(script, &bench_case->map, is_flash, bench_case->number % 4 == 2, is_dm648);
+    write_some_script(script, is_large);
+    choose_words(random, &bench_case->map, &bench_case->choice);
+    if (chance(random, wrong_percent + 1))
+        break_choice(random, &bench_case->map, &bench_case->choice);
+    if (chance(random, wrong_percent))
+        break_numbers_length(random, &bench_case->choice);
+    if (chance(random, wrong_percent + 3))
+        break_map(random, &bench_case->map);
+    if (is_flash && wrong_percent == 50 && chance(random, 50))
+        break_image_length(script);
+    bench_case->memory_length = choose_memory_length(random, &bench_case->map, chance(random, wrong_percent));
+    bench_case->room_length = choose_room_length(random, script, chance(random, wrong_percent));
+    bench_case->limit = choose_limit(random, script->length);
+    bench_case->line = choose_number(random, script->has_halves, chance(random, wrong_percent));
+    bench_case->dialect = choose_number(random, is_dm648, chance(random, wrong_percent));
+}
+
 void make_case(struct bench_case *bench_case, uint64_t seed, uint64_t number)
 {
     struct random_source random = random_from(seed, number);
-    struct writer *script = &bench_case->script;
-    bool is_flash = number % 2 != 0, is_dm648 = number / 4 % 2 != 0;
-    bool is_large = random_below(&random, 400) == 0;
-    uint32_t wrong_percent = chance(&random, 3) ? 50 : 2; /* at times several things are wrong at once */
+    bool is_dm648 = number / 4 % 2 != 0, is_heavy = number % HEAVY_EVERY == HEAVY_EVERY - 1;
 
     bench_case->seed = seed;
     bench_case->number = number;
-    script->random = random_from(seed ^ 0x5343524950543A29, number);
-    if (number % HEAVY_EVERY == HEAVY_EVERY - 1) {
-        make_heavy_case(bench_case, &random);
+    bench_case->script.random = random_from(seed ^ 0x5343524950543A29, number);
+    if (!is_heavy && number % LONG_EVERY != 1) {
+        make_usual_case(bench_case, &random, is_dm648);
         return;
     }
-    choose_map(&random, &bench_case->map, is_large);
-    begin_script(script, &bench_case->map, is_flash, number % 4 == 2, is_dm648);
-    write_some_script(script, is_large);
-    if (chance(&random, wrong_percent + 3))
-        break_map(&random, &bench_case->map);
-    if (is_flash && wrong_percent == 50 && chance(&random, 50))
-        break_image_length(script);
-    bench_case->memory_length = choose_memory_length(&random, &bench_case->map, chance(&random, wrong_percent));
-    bench_case->room_length = choose_room_length(&random, script, chance(&random, wrong_percent));
-    bench_case->limit = choose_limit(&random, script->length);
-    bench_case->line = choose_line(&random, script->has_halves, is_dm648 && chance(&random, wrong_percent));
+    if (is_heavy)
+        make_heavy_case(bench_case, &random);
+    else
+        make_long_case(bench_case, &random, is_dm648);
+    choose_words(&random, &bench_case->map, &bench_case->choice);
+    bench_case->memory_length = (size_t)map_sum(&bench_case->map);
+    bench_case->dialect = is_dm648;
 }
 
 void fill_memory(const struct bench_case *bench_case, uint8_t *memory, size_t length)
@@ -1117,6 +1304,13 @@ void fill_room(const struct bench_case *bench_case, uint8_t *room, size_t length
     struct random_source random = random_from(bench_case->seed + 2, bench_case->number);
 
     random_bytes(&random, room, length);
+}
+
+void fill_numbers(const struct bench_case *bench_case, uint8_t *numbers, size_t length)
+{
+    struct random_source random = random_from(bench_case->seed + 3, bench_case->number);
+
+    random_bytes(&random, numbers, length);
 }
 
 static void print_bytes(const char *name, const uint8_t *bytes, size_t length)
@@ -1140,6 +1334,8 @@ void print_case(const struct bench_case *bench_case)
                map->windows[index].length, map->windows[index].rights);
     print_bytes("map", map->bytes, map->length);
     printf("memory of %zu bytes\n", bench_case->memory_length);
+    print_bytes("chosen", bench_case->choice.bytes, bench_case->choice.length);
+    printf("numbers of %zu bytes, dialect %u\n", bench_case->choice.numbers_length, bench_case->dialect);
     print_bytes(is_flash ? "image" : "fed", bench_case->script.bytes, bench_case->script.length);
     if (is_flash)
         printf("retry limit %u\n", bench_case->limit);

@@ -4,6 +4,16 @@
 
 #include "writer.h"
 
+enum { CHOICE_LIMIT = 64, CHOSEN_WRITTEN = 80, NUMBERS_OF_WORD = 64 };
+
+/* Words whose bits are asked for, as little-endian addresses, and how many bytes are lent for their numbers. */
+struct choice {
+    uint8_t bytes[4 * CHOSEN_WRITTEN];
+    size_t length;
+    size_t numbers_length;
+    bool is_right; /* both of these */
+};
+
 struct bench_case {
     uint64_t seed;
     uint64_t number;
@@ -11,13 +21,15 @@ struct bench_case {
     size_t memory_length;
     struct writer script; /* the bytes fed, or the image */
     size_t room_length;   /* sent mode only */
-    uint8_t line;         /* sent mode of a DM648 only: the line as a number, at times one that there is not */
+    uint8_t line;         /* sent mode only: the line as a number, at times one that there is not */
     uint8_t limit;        /* flash mode only */
+    uint8_t dialect;      /* where words are chosen: the dialect as a number, at times one that there is not */
+    struct choice choice;
 };
 
 /* Makes the case of this seed and number: sent mode for even numbers, by bytes and by halves in turns, flash
    mode for odd ones; four numbers for the AM17xx and four for the DM648 in turns. Every 50,000th is a heavy one, which
-   takes the totals of a DM648 to about 2^32. */
+   takes the totals of a DM648 to about 2^32, and every 7,500th a long one, which takes the numbers to about 65,535. */
 void make_case(struct bench_case *bench_case, uint64_t seed, uint64_t number);
 
 /* The parts that make_case is put together from. */
@@ -32,9 +44,14 @@ void write_good_command(struct writer *writer);
 void write_flawed_command(struct writer *writer);
 void damage_script(struct writer *writer);
 
-/* The bytes that memory and room hold before the call. */
+/* Words of set windows, none of them twice, as many as they have and the choice may have at most. */
+void choose_words(struct random_source *random, const struct map *map, struct choice *choice);
+uint32_t chosen_word(const struct choice *choice, size_t index);
+
+/* The bytes that memory, room and numbers hold before the call. */
 void fill_memory(const struct bench_case *bench_case, uint8_t *memory, size_t length);
 void fill_room(const struct bench_case *bench_case, uint8_t *room, size_t length);
+void fill_numbers(const struct bench_case *bench_case, uint8_t *numbers, size_t length);
 
 void print_case(const struct bench_case *bench_case);
 

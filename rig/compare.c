@@ -3,8 +3,10 @@
    compare COUNT SEED [FIRST] runs COUNT cases of the seed, from case FIRST on. It ends with status 1 at the
    first difference, or (unless FIRST is given) when a refusal or a command was not met at all, no command of a kind
    that writes was accepted over a seam, or no flash case met its ceiling of words fetched. In flash mode 14 can't be
-   met, since a run stops when its session ends; in sent mode 18 can't, since what may be fed loads less than 2^29 bytes.
-   17 and 18 are for the DM648, and 18 takes the heavy cases: with less than 150,000 cases it may not be met. */
+   met, since a run stops when its session ends; in sent mode 18 and 25 can't, since what may be fed loads less than 2^29
+   bytes and has less than 11,000 commands. 17 and 18 are for the DM648, and 18 takes the heavy cases: with less than 150,000
+   cases it may not be met.
+   Each case is run twice by each loader: as it is, and with words chosen, whose numbers are compared too. */
 #include "ais.h"
 #include "cases.h"
 #include "plain_loader.h"
@@ -20,6 +22,10 @@
 typedef uint64_t sent_entry(const uint8_t *, size_t, uint8_t *, size_t, const uint8_t *, size_t, uint8_t *, size_t);
 typedef uint64_t dm648_entry(uint8_t, const uint8_t *, size_t, uint8_t *, size_t, const uint8_t *, size_t, uint8_t *,
                              size_t);
+typedef uint64_t bits_session(uint8_t, uint8_t, const uint8_t *, size_t, const uint8_t *, size_t, uint8_t *, size_t,
+                              uint8_t *, size_t, const uint8_t *, size_t, uint8_t *, size_t);
+typedef uint64_t bits_run(uint8_t, const uint8_t *, size_t, const uint8_t *, size_t, uint8_t *, size_t, uint8_t *, size_t,
+                          const uint8_t *, size_t, uint8_t);
 typedef uint64_t flash_entry(const uint8_t *, size_t, uint8_t *, size_t, const uint8_t *, size_t, uint8_t);
 
 enum { GUARD = 17, REFUSAL_LIMIT = 256, CASE_SECONDS = 30 };
@@ -38,6 +44,8 @@ struct outcome {
     struct lent script;
     struct lent memory;
     struct lent room;
+    struct lent chosen; /* these two are empty where no words are chosen */
+    struct lent numbers;
     uint64_t value;
 };
 
@@ -47,6 +55,8 @@ typedef uint64_t counts[PLAIN_DIALECTS][PLAIN_MODES];
 struct tally {
     counts cases;
     counts refusals[REFUSAL_LIMIT];
+    counts watched[REFUSAL_LIMIT]; /* the refusals where words are chosen */
+    counts numbered;               /* bits of chosen words that have a number */
     counts retried;          /* cases with a retry, flash only */
     counts entered_by_retry; /* and of these, those that entered */
     counts retries;          /* counted in all */
@@ -96,13 +106,17 @@ struct loader {
     sent_entry *halves;
     dm648_entry *dm648;
     flash_entry *flash[PLAIN_DIALECTS];
+    bits_session *bits_sent;
+    bits_run *bits_flash;
 };
 
-static const struct loader PROVED = {ais_sent_session, ais_half_session, ais_dm648_session,
-                                     {ais_flash_run, ais_dm648_run}};
+static const struct loader PROVED = {ais_sent_session,  ais_half_session,
+                                     ais_dm648_session, {ais_flash_run, ais_dm648_run},
+                                     ais_bits_session,  ais_bits_run};
 static const struct loader COUNTING = {.flash = {ais_flash_fetched}};
-static const struct loader PLAIN = {plain_sent_session, plain_half_session, plain_dm648_session,
-                                    {plain_flash_run, plain_dm648_run}};
+static const struct loader PLAIN = {plain_sent_session,  plain_half_session,
+                                    plain_dm648_session, {plain_flash_run, plain_dm648_run},
+                                    plain_bits_session,  plain_bits_run};
 
 static uint64_t run_flash(const struct bench_case *bench_case, struct outcome *outcome, const struct loader *loader)
 {
@@ -123,19 +137,38 @@ static uint64_t run_sent(const struct bench_case *bench_case, struct outcome *ou
         room->length);
 }
 
+/* Either of these with words chosen. */
+static uint64_t run_watched(const struct bench_case *bench_case, struct outcome *outcome, const struct loader *loader)
+{
+    struct lent *map = &outcome->map, *script = &outcome->script, *memory = &outcome->memory, *room = &outcome->room;
+    struct lent *chosen = &outcome->chosen, *numbers = &outcome->numbers;
+
+    if (bench_case->script.is_flash)
+        return loader->bits_flash(bench_case->dialect, map->bytes, map->length, chosen->bytes, chosen->length,
+                                  memory->bytes, memory->length, numbers->bytes, numbers->length, script->bytes,
+                                  script->length, bench_case->limit);
+    return loader->bits_sent(bench_case->line, bench_case->dialect, map->bytes, map->length, chosen->bytes,
+                             chosen->length, memory->bytes, memory->length, numbers->bytes, numbers->length,
+                             script->bytes, script->length, room->bytes, room->length);
+}
+
 /* The plain loader gets no guards, so that the sanitizer sees the first byte too far. */
 static void run_loader(const struct bench_case *bench_case, struct outcome *outcome, size_t guard,
-                       const struct loader *loader)
+                       const struct loader *loader, bool is_watched)
 {
     const struct writer *script = &bench_case->script;
+    const struct choice *choice = &bench_case->choice;
 
+    outcome->chosen = lend_copy(choice->bytes, is_watched ? choice->length : 0, guard);
+    outcome->numbers = lend(is_watched ? choice->numbers_length : 0, guard);
+    fill_numbers(bench_case, outcome->numbers.bytes, outcome->numbers.length);
     outcome->map = lend_copy(bench_case->map.bytes, bench_case->map.length, guard);
     outcome->script = lend_copy(script->bytes, script->length, guard);
     outcome->memory = lend(bench_case->memory_length, guard);
     outcome->room = lend(script->is_flash ? 0 : bench_case->room_length, guard);
     fill_memory(bench_case, outcome->memory.bytes, outcome->memory.length);
     fill_room(bench_case, outcome->room.bytes, outcome->room.length);
-    outcome->value = (script->is_flash ? run_flash : run_sent)(bench_case, outcome, loader);
+    outcome->value = (is_watched ? run_watched : script->is_flash ? run_flash : run_sent)(bench_case, outcome, loader);
 }
 
 static void free_outcome(struct outcome *outcome)
@@ -144,6 +177,8 @@ static void free_outcome(struct outcome *outcome)
     free(outcome->script.whole);
     free(outcome->memory.whole);
     free(outcome->room.whole);
+    free(outcome->chosen.whole);
+    free(outcome->numbers.whole);
 }
 
 /* ---- Comparing ---- */
@@ -179,11 +214,13 @@ static bool room_past_replies_kept(const struct bench_case *bench_case, const st
 /* What was lent to be read only, and the guards around everything. */
 static bool nothing_else_changed(const struct bench_case *bench_case, const struct outcome *outcome)
 {
-    const struct lent *map = &outcome->map, *script = &outcome->script;
+    const struct lent *map = &outcome->map, *script = &outcome->script, *chosen = &outcome->chosen;
 
     if (memcmp(map->bytes, bench_case->map.bytes, map->length) == 0 &&
-        memcmp(script->bytes, bench_case->script.bytes, script->length) == 0 && guards_hold(map) &&
-        guards_hold(script) && guards_hold(&outcome->memory) && guards_hold(&outcome->room))
+        memcmp(script->bytes, bench_case->script.bytes, script->length) == 0 &&
+        memcmp(chosen->bytes, bench_case->choice.bytes, chosen->length) == 0 && guards_hold(map) &&
+        guards_hold(script) && guards_hold(chosen) && guards_hold(&outcome->numbers) &&
+        guards_hold(&outcome->memory) && guards_hold(&outcome->room))
         return true;
     printf("bytes were changed that were lent for reading, or not lent at all\n");
     return false;
@@ -199,6 +236,7 @@ static bool same_outcome(const struct bench_case *bench_case, const struct outco
     }
     is_same &= same_bytes("memory", &proved->memory, &plain->memory);
     is_same &= same_bytes("room", &proved->room, &plain->room);
+    is_same &= same_bytes("numbers", &proved->numbers, &plain->numbers);
     if (!bench_case->script.is_flash)
         is_same &= room_past_replies_kept(bench_case, proved);
     is_same &= nothing_else_changed(bench_case, proved);
@@ -219,7 +257,7 @@ static bool same_count(const struct bench_case *bench_case, const struct outcome
     bool is_same;
 
     expected.value = plain->value >> 56 << 32 | plain_fetched;
-    run_loader(bench_case, &counted, GUARD, &COUNTING);
+    run_loader(bench_case, &counted, GUARD, &COUNTING, false);
     is_same = same_outcome(bench_case, &counted, &expected);
     if ((uint32_t)counted.value > ceiling_of(bench_case)) {
         printf("more words were fetched than the ceiling\n");
@@ -249,13 +287,28 @@ static void count_flash(struct tally *tally, const struct bench_case *bench_case
     tally->at_ceiling[dialect][PLAIN_FLASH] += plain_fetched != 0 && plain_fetched == ceiling_of(bench_case);
 }
 
+static unsigned refusal_of(unsigned mode, uint64_t value)
+{
+    return (unsigned)(mode == PLAIN_FLASH ? value >> 56 : value >> 32) % REFUSAL_LIMIT;
+}
+
+/* What words that are chosen add: a refusal, or numbers. Nothing is numbered where it was refused at once. */
+static void count_watched(struct tally *tally, const struct bench_case *bench_case, const struct outcome *outcome)
+{
+    unsigned dialect = bench_case->script.is_dm648, mode = mode_of(&bench_case->script);
+    unsigned refusal = refusal_of(mode, outcome->value);
+
+    tally->watched[refusal][dialect][mode]++;
+    for (size_t index = 0; refusal == 0 && index < outcome->numbers.length; index += 2)
+        tally->numbered[dialect][mode] += (outcome->numbers.bytes[index] | outcome->numbers.bytes[index + 1]) != 0;
+}
+
 static void count_case(struct tally *tally, const struct bench_case *bench_case, uint64_t value)
 {
     unsigned dialect = bench_case->script.is_dm648, mode = mode_of(&bench_case->script);
-    unsigned refusal = (unsigned)(mode == PLAIN_FLASH ? value >> 56 : value >> 32);
 
     tally->cases[dialect][mode]++;
-    tally->refusals[refusal % REFUSAL_LIMIT][dialect][mode]++;
+    tally->refusals[refusal_of(mode, value)][dialect][mode]++;
     if (mode == PLAIN_FLASH)
         count_flash(tally, bench_case, dialect, value);
 }
@@ -302,15 +355,24 @@ static void print_kind(plain_counts *accepted, unsigned kind)
     print_row(plain_command_name(kind), (const uint64_t(*)[PLAIN_MODES])row);
 }
 
+static void print_refusals(const char *name, const counts *refusals)
+{
+    print_heading(name);
+    for (unsigned refusal = 0; refusal < REFUSAL_LIMIT; refusal++) {
+        char number[12];
+        snprintf(number, sizeof number, "%7u", refusal);
+        if (sum_of(refusals[refusal]) != 0)
+            print_row(number, refusals[refusal]);
+    }
+}
+
 static void print_tally(const struct tally *tally)
 {
-    print_heading("refusal");
-    for (unsigned refusal = 0; refusal < REFUSAL_LIMIT; refusal++) {
-        char name[12];
-        snprintf(name, sizeof name, "%7u", refusal);
-        if (sum_of(tally->refusals[refusal]) != 0)
-            print_row(name, tally->refusals[refusal]);
-    }
+    print_refusals("refusal", tally->refusals);
+    printf("\n");
+    print_refusals("with words chosen", tally->watched);
+    print_row("bits with a number", tally->numbered);
+    printf("\n");
     print_row("cases", tally->cases);
     print_row("retried", tally->retried);
     print_row("  and entered", tally->entered_by_retry);
@@ -343,26 +405,30 @@ static bool is_listed(unsigned refusal, const unsigned *list, size_t count)
 
 #define IS_LISTED(refusal, list) is_listed(refusal, list, sizeof(list) / sizeof((list)[0]))
 
-/* Whether a refusal can be met: those of both modes, those that a DM648 has alone, and those of one mode. */
-static bool can_be_met(unsigned dialect, unsigned mode, unsigned refusal)
+/* Whether a refusal can be met: those of both modes, those that a DM648 has alone, those of chosen words, and those of one
+   mode. A wrong number for the dialect makes 19 one of flash mode too. */
+static bool can_be_met(unsigned dialect, unsigned mode, bool is_watched, unsigned refusal)
 {
     static const unsigned both[] = {0, 1, 2, 6, 7, 8, 9, 10, 15, 16}, sent[] = {14, 19}, flash[] = {3, 4, 5, 11, 12};
+    static const unsigned watched[] = {19, 24}, watched_flash[] = {25};
 
     if (refusal == 17 || refusal == 18)
         return dialect == PLAIN_DM648 && (refusal == 17 || mode == PLAIN_FLASH);
+    if (is_watched && (IS_LISTED(refusal, watched) || (mode == PLAIN_FLASH && IS_LISTED(refusal, watched_flash))))
+        return true;
     return IS_LISTED(refusal, both) || (mode == PLAIN_FLASH ? IS_LISTED(refusal, flash) : IS_LISTED(refusal, sent));
 }
 
 /* Every refusal that can be met is, and no other. */
-static bool all_refusals_met(const struct tally *tally, unsigned dialect, unsigned mode)
+static bool all_refusals_met(const counts *refusals, unsigned dialect, unsigned mode, bool is_watched)
 {
     bool is_met = true;
 
     for (unsigned refusal = 0; refusal < REFUSAL_LIMIT; refusal++) {
-        bool was_met = tally->refusals[refusal][dialect][mode] != 0;
-        if (was_met != can_be_met(dialect, mode, refusal)) {
-            printf("refusal %u was %s (%s, %s)\n", refusal, was_met ? "met" : "not met", plain_dialect_name(dialect),
-                   plain_mode_name(mode));
+        bool was_met = refusals[refusal][dialect][mode] != 0;
+        if (was_met != can_be_met(dialect, mode, is_watched, refusal)) {
+            printf("refusal %u was %s (%s, %s%s)\n", refusal, was_met ? "met" : "not met", plain_dialect_name(dialect),
+                   plain_mode_name(mode), is_watched ? ", words chosen" : "");
             is_met = false;
         }
     }
@@ -390,7 +456,8 @@ static bool everything_met(const struct tally *tally)
 
     for (unsigned dialect = 0; dialect < PLAIN_DIALECTS; dialect++) {
         for (unsigned mode = 0; mode < PLAIN_MODES; mode++) {
-            is_met &= all_refusals_met(tally, dialect, mode);
+            is_met &= all_refusals_met(tally->refusals, dialect, mode, false);
+            is_met &= all_refusals_met(tally->watched, dialect, mode, true);
             is_met &= all_commands_met(dialect, mode);
         }
         if (tally->at_ceiling[dialect][PLAIN_FLASH] == 0 || tally->entered_by_retry[dialect][PLAIN_FLASH] == 0) {
@@ -410,6 +477,39 @@ static void on_crash(int signal_number)
     _exit(write(STDOUT_FILENO, crash_notice, strlen(crash_notice)) < 0 ? 2 : 1);
 }
 
+/* The answer of a run with words chosen is that of the run without, but for its own refusals. */
+static bool watching_changed_nothing(const struct bench_case *bench_case, const struct outcome *watched,
+                                     const struct outcome *proved)
+{
+    unsigned refusal = refusal_of(mode_of(&bench_case->script), watched->value);
+    const struct writer *script = &bench_case->script;
+
+    if (!bench_case->choice.is_right || bench_case->dialect != script->is_dm648 || bench_case->line != script->has_halves ||
+        refusal == 25)
+        return true;
+    if (watched->value == proved->value && same_bytes("watched memory", &watched->memory, &proved->memory) &&
+        same_bytes("watched room", &watched->room, &proved->room))
+        return true;
+    printf("the answer is another where words are chosen\n");
+    return false;
+}
+
+/* The same with words chosen. */
+static bool compare_watched(const struct bench_case *bench_case, struct tally *tally, const struct outcome *unwatched)
+{
+    struct outcome proved, plain;
+    bool is_same;
+
+    run_loader(bench_case, &plain, 0, &PLAIN, true);
+    run_loader(bench_case, &proved, GUARD, &PROVED, true);
+    count_watched(tally, bench_case, &plain);
+    is_same = same_outcome(bench_case, &proved, &plain);
+    is_same &= watching_changed_nothing(bench_case, &proved, unwatched);
+    free_outcome(&plain);
+    free_outcome(&proved);
+    return is_same;
+}
+
 static bool compare_case(struct bench_case *bench_case, struct tally *tally, uint64_t seed, uint64_t number)
 {
     struct outcome proved, plain;
@@ -419,12 +519,13 @@ static bool compare_case(struct bench_case *bench_case, struct tally *tally, uin
     snprintf(crash_notice, sizeof crash_notice, "CRASH, or no end: seed %" PRIu64 ", case %" PRIu64 "\n",
              seed, number);
     alarm(CASE_SECONDS);
-    run_loader(bench_case, &plain, 0, &PLAIN);
-    run_loader(bench_case, &proved, GUARD, &PROVED);
+    run_loader(bench_case, &plain, 0, &PLAIN, false);
+    run_loader(bench_case, &proved, GUARD, &PROVED, false);
     count_case(tally, bench_case, plain.value);
     is_same = same_outcome(bench_case, &proved, &plain);
     if (bench_case->script.is_flash && !bench_case->script.is_dm648)
         is_same &= same_count(bench_case, &plain);
+    is_same &= compare_watched(bench_case, tally, &proved);
     free_outcome(&plain);
     free_outcome(&proved);
     if (!is_same) {

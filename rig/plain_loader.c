@@ -25,13 +25,16 @@ enum refusal {
     DATA_TOO_WIDE = 16,
     TOTALS_DIFFER = 17,
     TOTAL_TOO_LARGE = 18,
-    CALL_WRONG = 19
+    CALL_WRONG = 19,
+    CHOICE_WRONG = 24,
+    NUMBER_TOO_LARGE = 25
 };
 
 enum right { LOAD_RIGHT = 1, SET_RIGHT = 2, ENTRY_RIGHT = 4 };
 
 enum { WINDOW_LIMIT = 8, WINDOW_BYTES = 12, MEMORY_LIMIT = 65536, IMAGE_LIMIT = 65536, FED_LIMIT = 65536 };
 enum { WORD_BYTES = 4, ARGUMENT_LIMIT = 4, REPLY_LIMIT = 8, GREETING_LENGTH = 6 };
+enum { CHOICE_LIMIT = 64, LARGEST_NUMBER = 65535, NUMBER_BYTES = 2, CHOICE_BYTES = 64 };
 
 static const uint32_t FIRST_WORD = 0x41504954;
 static const uint32_t POLYNOMIAL = 0x04C11DB7;
@@ -231,9 +234,22 @@ struct sections {
     uint64_t *bytes;
     size_t count;
     size_t room;
-    size_t kept;        /* how many of them a retry leaves */
-    bool has_requested; /* sent mode: the last opcode was a Request, after which a retry may still come */
+    size_t kept; /* how many of them a retry leaves */
 };
+
+/* Makes room for one more in a list of things of some size. */
+static void *with_room(void *list, size_t count, size_t *room, size_t size)
+{
+    if (count < *room)
+        return list;
+    *room = 2 * *room + 64;
+    list = realloc(list, *room * size);
+    if (list == NULL) {
+        fprintf(stderr, "no memory left\n");
+        exit(2);
+    }
+    return list;
+}
 
 static uint64_t bytes_of(const struct sections *sections)
 {
@@ -247,38 +263,99 @@ static bool is_too_large(const struct sections *sections, uint32_t size)
 
 static void append_section(struct sections *sections, uint32_t size)
 {
-    if (sections->count == sections->room) {
-        sections->room = 2 * sections->room + 64;
-        sections->bytes = realloc(sections->bytes, sections->room * sizeof *sections->bytes);
-        if (sections->bytes == NULL) {
-            fprintf(stderr, "no memory left\n");
-            exit(2);
-        }
-    }
+    sections->bytes = with_room(sections->bytes, sections->count, &sections->room, sizeof *sections->bytes);
     sections->bytes[sections->count] = bytes_of(sections) + size;
     sections->count++;
 }
 
-/* From here on a retry would begin. */
-static void keep_sections(struct sections *sections)
+/* ---- Which command wrote a bit of a chosen word ---- */
+
+/* The words that were chosen, as they are lent, and where their numbers go. */
+struct watch {
+    const uint8_t *chosen;
+    size_t chosen_length;
+    uint8_t *numbers;
+    size_t numbers_length;
+};
+
+/* An accepted load, fill or setting: its number, the bytes that it wrote, and which bits of these, a field's word being
+   the only one of which it is not all. */
+struct written {
+    uint32_t number;
+    uint32_t address;
+    uint32_t size;
+    uint32_t bits;
+};
+
+/* All commands that were accepted, in their order, those given up too. */
+struct history {
+    struct written *list;
+    size_t count;
+    size_t room;
+    uint32_t standing; /* how many of them stand */
+    uint32_t kept;     /* how many a retry leaves */
+};
+
+static void append_written(struct history *history, uint32_t address, uint32_t size, uint32_t bits)
 {
-    sections->kept = sections->count;
+    history->list = with_room(history->list, history->count, &history->room, sizeof *history->list);
+    history->standing++;
+    history->list[history->count++] = (struct written){history->standing, address, size, bits};
 }
 
-static void drop_sections(struct sections *sections)
+/* The bits of a word that a command wrote. */
+static uint32_t bits_written(const struct written *written, uint32_t word)
 {
-    sections->count = sections->kept;
+    uint32_t bits = 0;
+
+    for (unsigned index = 0; index < WORD_BYTES; index++) {
+        uint64_t address = (uint64_t)word + index;
+        if (written->address <= address && address < (uint64_t)written->address + written->size)
+            bits |= (uint32_t)0xFF << (8 * index);
+    }
+    return bits & written->bits;
 }
 
-/* What an opcode on the line says of the sections before it: a Start-Over takes them back, any other opcode directly
-   after a Request says that they were right. */
-static void judge_sections(struct sections *sections, enum command command)
+/* Looks back from the last command to the first until each bit of a word is found. */
+static void write_numbers_of(const struct history *history, uint32_t word, uint8_t *numbers)
 {
-    if (command == START_OVER)
-        drop_sections(sections);
-    else if (sections->has_requested || command == ENABLE)
-        keep_sections(sections);
-    sections->has_requested = command == REQUEST;
+    uint32_t sought = 0xFFFFFFFF;
+
+    memset(numbers, 0, CHOICE_BYTES);
+    for (size_t index = history->count; index > 0 && sought != 0; index--) {
+        uint32_t found = bits_written(&history->list[index - 1], word) & sought;
+        for (unsigned bit = 0; bit < 32; bit++)
+            if (found >> bit & 1)
+                write_low_bytes(numbers + NUMBER_BYTES * bit, history->list[index - 1].number, NUMBER_BYTES);
+        sought &= ~found;
+    }
+}
+
+static bool lies_in_set_window(const struct map *map, uint32_t word)
+{
+    for (size_t index = 0; index < map->count; index++) {
+        const struct window *window = &map->windows[index];
+        if ((window->rights & SET_RIGHT) != 0 && window->first <= word &&
+            (uint64_t)word + WORD_BYTES <= window_end(window))
+            return true;
+    }
+    return false;
+}
+
+/* Whether the chosen words are allowed; false is refusal 24. */
+static bool choice_is_right(const struct map *map, const struct watch *watch)
+{
+    if (watch->chosen_length % WORD_BYTES != 0 || watch->chosen_length / WORD_BYTES > CHOICE_LIMIT)
+        return false;
+    for (size_t place = 0; place < watch->chosen_length; place += WORD_BYTES) {
+        uint32_t word = read_word(watch->chosen + place);
+        if (word % WORD_BYTES != 0 || !lies_in_set_window(map, word))
+            return false;
+        for (size_t earlier = 0; earlier < place; earlier += WORD_BYTES)
+            if (read_word(watch->chosen + earlier) == word)
+                return false;
+    }
+    return true;
 }
 
 /* ---- What both modes share ---- */
@@ -286,7 +363,10 @@ static void judge_sections(struct sections *sections, enum command command)
 struct loader {
     unsigned dialect;
     struct map map;
-    struct sections sections; /* none in AM17xx */
+    struct sections sections;  /* none in AM17xx */
+    const struct watch *watch; /* null where no words are chosen, and nothing is numbered */
+    struct history history;
+    bool has_requested; /* sent mode: the last opcode was a Request, after which a retry may still come */
     uint8_t *memory;
     uint32_t checksum;
     bool checksum_on;
@@ -311,6 +391,74 @@ static void add_section(struct loader *loader, uint32_t size)
 {
     if (loader->dialect == PLAIN_DM648)
         append_section(&loader->sections, size);
+}
+
+/* Whether one more numbered command is too much. */
+static bool number_is_too_large(const struct loader *loader)
+{
+    return loader->watch != NULL && loader->history.standing == LARGEST_NUMBER;
+}
+
+static void add_written(struct loader *loader, uint32_t address, uint32_t size, uint32_t bits)
+{
+    if (loader->watch != NULL)
+        append_written(&loader->history, address, size, bits);
+}
+
+/* From here on a retry would begin. */
+static void keep_all(struct loader *loader)
+{
+    loader->sections.kept = loader->sections.count;
+    loader->history.kept = loader->history.standing;
+}
+
+/* A retry: sections and numbers go back, and what was written stays in the history. */
+static void take_back(struct loader *loader)
+{
+    loader->sections.count = loader->sections.kept;
+    loader->history.standing = loader->history.kept;
+}
+
+/* What an opcode on the line says of the commands before it: a Start-Over takes them back, any other opcode directly
+   after a Request says that they were right. */
+static void judge_earlier(struct loader *loader, enum command command)
+{
+    if (command == START_OVER)
+        take_back(loader);
+    else if (loader->has_requested || command == ENABLE)
+        keep_all(loader);
+    loader->has_requested = command == REQUEST;
+}
+
+/* At the end: the numbers of the chosen words, by the history. */
+static void write_numbers(const struct loader *loader)
+{
+    for (size_t index = 0; loader->watch != NULL && index < loader->watch->chosen_length / WORD_BYTES; index++)
+        write_numbers_of(&loader->history, read_word(loader->watch->chosen + WORD_BYTES * index),
+                         loader->watch->numbers + CHOICE_BYTES * index);
+}
+
+static void end_loader(struct loader *loader)
+{
+    free(loader->sections.bytes);
+    free(loader->history.list);
+}
+
+/* Map and chosen words, in their order. */
+static enum refusal judge_opening(struct loader *loader, const uint8_t *map, size_t map_length)
+{
+    if (!read_map(&loader->map, map, map_length))
+        return MAP_WRONG;
+    return loader->watch == NULL || choice_is_right(&loader->map, loader->watch) ? ACCEPTED : CHOICE_WRONG;
+}
+
+/* Memory and numbers have to be as long as map and choice say. */
+static bool lengths_are_right(const struct loader *loader, size_t memory_length)
+{
+    const struct watch *watch = loader->watch;
+
+    return memory_length == loader->map.sum &&
+           (watch == NULL || watch->numbers_length == watch->chosen_length / WORD_BYTES * CHOICE_BYTES);
 }
 
 static void count_accepted(struct loader *loader, unsigned mode, enum command command)
@@ -379,10 +527,13 @@ static enum refusal fill(struct loader *loader, const uint32_t *arguments)
         return NOT_GRANTED;
     if (section_is_too_much(loader, size))
         return TOTAL_TOO_LARGE;
+    if (number_is_too_large(loader))
+        return NUMBER_TOO_LARGE;
     put_pattern(loader->memory + place, size, unit, pattern);
     for (unsigned index = 0; index < 4; index++)
         feed_checksum(loader, arguments[index], 32);
     add_section(loader, size);
+    add_written(loader, address, size, 0xFFFFFFFF);
     return ACCEPTED;
 }
 
@@ -417,9 +568,12 @@ static enum refusal boot_table(struct loader *loader, const uint32_t *arguments)
         return NOT_ALIGNED;
     if (!grant(loader, SET_RIGHT, address, unit, &place))
         return NOT_GRANTED;
+    if (number_is_too_large(loader))
+        return NUMBER_TOO_LARGE;
     if (is_field)
         data = put_field(read_word(loader->memory + place), data, start, stop);
     write_low_bytes(loader->memory + place, data, unit);
+    add_written(loader, address, unit, is_field ? field_ones(start, stop) << start : 0xFFFFFFFF);
     return ACCEPTED;
 }
 
@@ -474,6 +628,8 @@ static enum refusal flash_load(struct flash_run *run, const uint32_t *arguments,
     padded = whole + (left_over != 0 ? WORD_BYTES : 0);
     if (run->length - after < padded)
         return IMAGE_TOO_SHORT;
+    if (number_is_too_large(&run->loader))
+        return NUMBER_TOO_LARGE;
     memcpy(run->loader.memory + place, data, size);
     run->fetched += (uint32_t)(padded / WORD_BYTES);
     feed_checksum(&run->loader, address, 32);
@@ -483,6 +639,7 @@ static enum refusal flash_load(struct flash_run *run, const uint32_t *arguments,
     if (left_over != 0)
         feed_checksum(&run->loader, read_word(data + whole), 8 * left_over);
     add_section(&run->loader, size);
+    add_written(&run->loader, address, size, 0xFFFFFFFF);
     run->offset = after + padded;
     return ACCEPTED;
 }
@@ -496,7 +653,7 @@ static enum refusal flash_request(struct flash_run *run, const uint32_t *argumen
 
     run->loader.checksum = 0;
     if (matches) {
-        keep_sections(&run->loader.sections);
+        keep_all(&run->loader);
         run->offset = after;
         return ACCEPTED;
     }
@@ -504,7 +661,7 @@ static enum refusal flash_request(struct flash_run *run, const uint32_t *argumen
         return CHECKSUM_DIFFERS;
     if (target % WORD_BYTES != 0 || target < WORD_BYTES || target >= run->offset)
         return SEEK_WRONG;
-    drop_sections(&run->loader.sections);
+    take_back(&run->loader);
     run->retries++;
     run->offset = target;
     return ACCEPTED;
@@ -522,7 +679,7 @@ static enum refusal flash_simple(struct loader *loader, enum command command, co
         return jump_and_close(loader, arguments);
     case ENABLE:
         enable(loader);
-        keep_sections(&loader->sections);
+        keep_all(loader);
         return ACCEPTED;
     case DISABLE:
         disable(loader);
@@ -568,8 +725,10 @@ static enum refusal flash_command(struct flash_run *run)
 
 static enum refusal flash_opening(struct flash_run *run, const uint8_t *map, size_t map_length)
 {
-    if (!read_map(&run->loader.map, map, map_length))
-        return MAP_WRONG;
+    enum refusal refusal = judge_opening(&run->loader, map, map_length);
+
+    if (refusal != ACCEPTED)
+        return refusal;
     if (run->length % WORD_BYTES != 0 || run->length < WORD_BYTES || run->length > IMAGE_LIMIT)
         return IMAGE_LENGTH_WRONG;
     if (fetch_word(run, 0) != FIRST_WORD)
@@ -577,25 +736,29 @@ static enum refusal flash_opening(struct flash_run *run, const uint8_t *map, siz
     return ACCEPTED;
 }
 
-static uint64_t run_in(unsigned dialect, const uint8_t *map, size_t map_length, uint8_t *memory, size_t memory_length,
-                       const uint8_t *image, size_t image_length, uint8_t limit)
+static uint64_t run_in(unsigned dialect, const struct watch *watch, const uint8_t *map, size_t map_length,
+                       uint8_t *memory, size_t memory_length, const uint8_t *image, size_t image_length, uint8_t limit)
 {
-    struct flash_run run = {.loader = {.dialect = dialect, .memory = memory},
+    struct flash_run run = {.loader = {.dialect = dialect, .watch = watch, .memory = memory},
                             .image = image,
                             .length = image_length,
                             .offset = WORD_BYTES,
                             .limit = limit};
     enum refusal refusal = flash_opening(&run, map, map_length);
     size_t last_offset = 0;
+    bool is_begun;
 
-    if (refusal == ACCEPTED && memory_length != run.loader.map.sum)
+    if (refusal == ACCEPTED && !lengths_are_right(&run.loader, memory_length))
         refusal = MEMORY_LENGTH_WRONG;
+    is_begun = refusal == ACCEPTED;
     while (refusal == ACCEPTED && !run.loader.ended) {
         last_offset = run.offset;
         refusal = flash_command(&run);
     }
     plain_fetched = run.fetched;
-    free(run.loader.sections.bytes);
+    if (is_begun)
+        write_numbers(&run.loader);
+    end_loader(&run.loader);
     return (uint64_t)refusal << 56 | (uint64_t)run.retries << 48 | (uint64_t)(last_offset / 4) << 32 |
            run.loader.checksum;
 }
@@ -603,13 +766,25 @@ static uint64_t run_in(unsigned dialect, const uint8_t *map, size_t map_length, 
 uint64_t plain_flash_run(const uint8_t *map, size_t map_length, uint8_t *memory, size_t memory_length,
                          const uint8_t *image, size_t image_length, uint8_t limit)
 {
-    return run_in(PLAIN_AM17XX, map, map_length, memory, memory_length, image, image_length, limit);
+    return run_in(PLAIN_AM17XX, NULL, map, map_length, memory, memory_length, image, image_length, limit);
 }
 
 uint64_t plain_dm648_run(const uint8_t *map, size_t map_length, uint8_t *memory, size_t memory_length,
                          const uint8_t *image, size_t image_length, uint8_t limit)
 {
-    return run_in(PLAIN_DM648, map, map_length, memory, memory_length, image, image_length, limit);
+    return run_in(PLAIN_DM648, NULL, map, map_length, memory, memory_length, image, image_length, limit);
+}
+
+uint64_t plain_bits_run(uint8_t dialect, const uint8_t *map, size_t map_length, const uint8_t *chosen,
+                        size_t chosen_length, uint8_t *memory, size_t memory_length, uint8_t *numbers,
+                        size_t numbers_length, const uint8_t *image, size_t image_length, uint8_t limit)
+{
+    struct watch watch = {chosen, chosen_length, numbers, numbers_length};
+
+    plain_fetched = 0;
+    if (dialect >= PLAIN_DIALECTS)
+        return (uint64_t)CALL_WRONG << 56;
+    return run_in(dialect, &watch, map, map_length, memory, memory_length, image, image_length, limit);
 }
 
 /* ---- Sent mode ---- */
@@ -652,9 +827,12 @@ static enum refusal sent_load(struct sent_session *session)
         return NOT_GRANTED;
     if (section_is_too_much(&session->loader, size))
         return TOTAL_TOO_LARGE;
+    if (number_is_too_large(&session->loader))
+        return NUMBER_TOO_LARGE;
     feed_checksum(&session->loader, address, 32);
     feed_checksum(&session->loader, size, 32);
     add_section(&session->loader, size);
+    add_written(&session->loader, address, 0, 0xFFFFFFFF);
     session->load_left = size;
     if (size != 0)
         session->awaiting = AWAITING_DATA;
@@ -670,6 +848,8 @@ static void sent_load_data(struct sent_session *session, uint32_t word)
     feed_checksum(&session->loader, word, 8 * count);
     session->load_place += count;
     session->load_left -= count;
+    if (session->loader.watch != NULL) /* the load is the last command in the history */
+        session->loader.history.list[session->loader.history.count - 1].size += count;
     if (session->load_left == 0)
         session->awaiting = AWAITING_OPCODE;
 }
@@ -760,7 +940,7 @@ static enum refusal sent_opcode(struct sent_session *session, uint32_t opcode, s
 
     if (refusal != ACCEPTED)
         return refusal;
-    judge_sections(&session->loader.sections, session->command);
+    judge_earlier(&session->loader, session->command);
     session->acknowledged = true;
     session->argument_count = 0;
     reply_word(reply, (opcode & 0x00FFFFFF) | (uint32_t)0x52 << 24);
@@ -834,9 +1014,11 @@ static bool call_is_right(unsigned line, size_t fed_length, size_t room_length)
 static enum refusal sent_opening(struct sent_session *session, const uint8_t *map, size_t map_length,
                                  size_t memory_length, size_t fed_length, size_t room_length)
 {
-    if (!read_map(&session->loader.map, map, map_length))
-        return MAP_WRONG;
-    if (memory_length != session->loader.map.sum)
+    enum refusal refusal = judge_opening(&session->loader, map, map_length);
+
+    if (refusal != ACCEPTED)
+        return refusal;
+    if (!lengths_are_right(&session->loader, memory_length))
         return MEMORY_LENGTH_WRONG;
     return call_is_right(session->line, fed_length, room_length) ? ACCEPTED : CALL_WRONG;
 }
@@ -850,11 +1032,11 @@ static size_t greet(unsigned line, uint8_t *room)
     return GREETING_LENGTH;
 }
 
-static uint64_t session_on(unsigned dialect, unsigned line, const uint8_t *map, size_t map_length, uint8_t *memory,
-                           size_t memory_length, const uint8_t *fed, size_t fed_length, uint8_t *room,
-                           size_t room_length)
+static uint64_t session_on(unsigned line, unsigned dialect, const struct watch *watch, const uint8_t *map,
+                           size_t map_length, uint8_t *memory, size_t memory_length, const uint8_t *fed,
+                           size_t fed_length, uint8_t *room, size_t room_length)
 {
-    struct sent_session session = {.loader = {.dialect = dialect, .memory = memory}, .line = line};
+    struct sent_session session = {.loader = {.dialect = dialect, .watch = watch, .memory = memory}, .line = line};
     enum refusal first_refusal = sent_opening(&session, map, map_length, memory_length, fed_length, room_length);
     size_t count;
 
@@ -870,21 +1052,22 @@ static uint64_t session_on(unsigned dialect, unsigned line, const uint8_t *map, 
         for (unsigned place = 0; place < reply.count; place++)
             room[count++] = reply.bytes[place];
     }
-    free(session.loader.sections.bytes);
+    write_numbers(&session.loader);
+    end_loader(&session.loader);
     return (uint64_t)first_refusal << 32 | count;
 }
 
 uint64_t plain_sent_session(const uint8_t *map, size_t map_length, uint8_t *memory, size_t memory_length,
                             const uint8_t *fed, size_t fed_length, uint8_t *room, size_t room_length)
 {
-    return session_on(PLAIN_AM17XX, PLAIN_BYTES, map, map_length, memory, memory_length, fed, fed_length, room,
+    return session_on(PLAIN_BYTES, PLAIN_AM17XX, NULL, map, map_length, memory, memory_length, fed, fed_length, room,
                       room_length);
 }
 
 uint64_t plain_half_session(const uint8_t *map, size_t map_length, uint8_t *memory, size_t memory_length,
                             const uint8_t *fed, size_t fed_length, uint8_t *room, size_t room_length)
 {
-    return session_on(PLAIN_AM17XX, PLAIN_HALVES, map, map_length, memory, memory_length, fed, fed_length, room,
+    return session_on(PLAIN_HALVES, PLAIN_AM17XX, NULL, map, map_length, memory, memory_length, fed, fed_length, room,
                       room_length);
 }
 
@@ -893,5 +1076,19 @@ uint64_t plain_dm648_session(uint8_t line, const uint8_t *map, size_t map_length
 {
     if (line != PLAIN_BYTES && line != PLAIN_HALVES)
         return (uint64_t)CALL_WRONG << 32;
-    return session_on(PLAIN_DM648, line, map, map_length, memory, memory_length, fed, fed_length, room, room_length);
+    return session_on(line, PLAIN_DM648, NULL, map, map_length, memory, memory_length, fed, fed_length, room,
+                      room_length);
+}
+
+uint64_t plain_bits_session(uint8_t line, uint8_t dialect, const uint8_t *map, size_t map_length, const uint8_t *chosen,
+                            size_t chosen_length, uint8_t *memory, size_t memory_length, uint8_t *numbers,
+                            size_t numbers_length, const uint8_t *fed, size_t fed_length, uint8_t *room,
+                            size_t room_length)
+{
+    struct watch watch = {chosen, chosen_length, numbers, numbers_length};
+
+    if ((line != PLAIN_BYTES && line != PLAIN_HALVES) || dialect >= PLAIN_DIALECTS)
+        return (uint64_t)CALL_WRONG << 32;
+    return session_on(line, dialect, &watch, map, map_length, memory, memory_length, fed, fed_length, room,
+                      room_length);
 }

@@ -27,8 +27,7 @@ int plain_command_allowed(unsigned mode, unsigned kind);
 /* Whether a kind writes a range of memory: Load, Fill and Boot Table. */
 int plain_command_writes(unsigned kind);
 
-/* The same calls, with the same answers, as ais_sent_session, ais_half_session, ais_flash_run, ais_dm648_session and
-   ais_dm648_run in ais.h. */
+/* The same calls, with the same answers, as those in ais.h whose names begin with ais_ and end like these. */
 uint64_t plain_sent_session(const uint8_t *map, size_t map_length, uint8_t *memory, size_t memory_length,
                             const uint8_t *fed, size_t fed_length, uint8_t *room, size_t room_length);
 uint64_t plain_half_session(const uint8_t *map, size_t map_length, uint8_t *memory, size_t memory_length,
@@ -39,5 +38,12 @@ uint64_t plain_dm648_session(uint8_t line, const uint8_t *map, size_t map_length
                              const uint8_t *fed, size_t fed_length, uint8_t *room, size_t room_length);
 uint64_t plain_dm648_run(const uint8_t *map, size_t map_length, uint8_t *memory, size_t memory_length,
                          const uint8_t *image, size_t image_length, uint8_t limit);
+uint64_t plain_bits_session(uint8_t line, uint8_t dialect, const uint8_t *map, size_t map_length, const uint8_t *chosen,
+                            size_t chosen_length, uint8_t *memory, size_t memory_length, uint8_t *numbers,
+                            size_t numbers_length, const uint8_t *fed, size_t fed_length, uint8_t *room,
+                            size_t room_length);
+uint64_t plain_bits_run(uint8_t dialect, const uint8_t *map, size_t map_length, const uint8_t *chosen,
+                        size_t chosen_length, uint8_t *memory, size_t memory_length, uint8_t *numbers,
+                        size_t numbers_length, const uint8_t *image, size_t image_length, uint8_t limit);
 
 #endif

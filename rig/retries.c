@@ -3,13 +3,15 @@
    retries COUNT SEED [FIRST] runs COUNT cases of the seed, from case FIRST on, those of even numbers by bytes
    and those of odd numbers by halves, two for the AM17xx and two for the DM648 in turns. A case is a map, a memory
    and the bytes of a prefix, an attempt, the commands that follow it and a continuation. They are fed with the
-   attempt and without it, and memory, refusal and all replies from the attempt's close on have to agree. So they
-   have where a Jump & Close comes next, by which a DM648 shows its totals: those that the case should have are
+   attempt and without it, and memory, refusal and all replies from the attempt's close on have to agree. In every
+   other four cases words are chosen, and the numbers of their bits are read as part of the memory. So all have to agree
+   where a Jump & Close comes next, by which a DM648 shows its totals: those that the case should have are
    taken, and others are 17.
    Then one bit that the attempt wrote is left out of the following commands, and memory has to differ in the
-   bits left out, wherever the attempt changed them, and in no others. And where a Request ends the prefix, a
-   Start-Over alone, which is no attempt, has to leave its trace in the totals of a DM648. It ends with status 1 at
-   the first failure, or (unless FIRST is given) when too little was met. */
+   bits left out, wherever the attempt changed them, and in no others; numbers may differ there only. And where a Request
+   ends the prefix, a Start-Over alone, which is no attempt, has to leave its trace in the totals of a DM648, and in the
+   numbers of either dialect. It ends with status 1 at the first failure, or (unless FIRST is given) when too little was
+   met. */
 #include "ais.h"
 #include "cases.h"
 
@@ -50,6 +52,8 @@ struct retry_case {
     bool has_closing; /* some window has an entry address */
     bool has_halves;
     bool is_dm648;
+    bool is_watched;
+    struct choice choice;
     enum beginning beginning;
     bool is_checked; /* the checksum is on when the attempt begins */
     bool has_request;
@@ -64,6 +68,7 @@ struct retry_case {
 struct outcome {
     uint64_t value;
     uint8_t memory[MEMORY_LIMIT];
+    uint16_t numbers[CHOICE_LIMIT][32]; /* of each bit of the chosen words */
     uint8_t room[GREETING_LENGTH + 2 * FED_LIMIT];
 };
 
@@ -71,6 +76,8 @@ struct tally {
     uint64_t beginnings[BEGINNINGS];
     uint64_t by_halves;
     uint64_t for_dm648;
+    uint64_t watched;
+    uint64_t numbered; /* bits of chosen words whose number was looked at */
     uint64_t checked;
     uint64_t empty;
     uint64_t with_request;
@@ -85,6 +92,8 @@ struct tally {
     uint64_t counted;          /* and of a DM648's, those with a section in the attempt */
     uint64_t no_attempt;       /* a Start-Over alone directly after a Request */
     uint64_t traced;           /* and of these, those that a DM648 saw */
+    uint64_t traced_by_number; /* those that were seen in the numbers */
+    uint64_t uncovered_number; /* cases in which a bit left out has the number of the attempt */
 };
 
 static struct outcome before, after, with, without;
@@ -379,12 +388,13 @@ static void write_prefix_command(struct writer *writer)
     }
 }
 
-/* What leaves register and totals as they are: a setting, a Ping or a Disable. It settles a Request all the same. */
-static void write_no_section(struct writer *writer)
+/* What leaves register and totals as they are: a Ping, a Disable, or where nothing is numbered a setting. It settles a
+   Request all the same. */
+static void write_no_section(struct writer *writer, bool may_set)
 {
     struct commands settings = {.count = 0};
 
-    if (chance(&writer->random, 60))
+    if (may_set && chance(&writer->random, 60))
         add_some_setting(&settings, writer);
     write_commands(writer, &settings);
     if (settings.count == 0 && chance(&writer->random, 50))
@@ -394,7 +404,7 @@ static void write_no_section(struct writer *writer)
 }
 
 /* The last opcode before an attempt, or the last but for one that loads nothing. */
-static void write_beginning(struct writer *writer, enum beginning beginning)
+static void write_beginning(struct writer *writer, enum beginning beginning, bool may_set)
 {
     static const uint32_t last[] = {OPCODE_ENABLE, OPCODE_REQUEST, OPCODE_START_OVER};
     uint32_t opcode = beginning == AFTER_NO_SECTION ? PICK(&writer->random, last) : last[beginning - AFTER_ENABLE];
@@ -404,7 +414,7 @@ static void write_beginning(struct writer *writer, enum beginning beginning)
     else
         write_switch(writer, opcode);
     if (beginning == AFTER_NO_SECTION)
-        write_no_section(writer);
+        write_no_section(writer, may_set);
 }
 
 /* Ends where an attempt begins. Bytes before the start word are ignored, and it may come several times. */
@@ -424,7 +434,7 @@ static void write_prefix(struct retry_case *retry_case)
         write_switch(writer, chance(random, 80) ? OPCODE_ENABLE : OPCODE_DISABLE);
     for (unsigned count = random_below(random, 6); count > 0; count--)
         write_prefix_command(writer);
-    write_beginning(writer, retry_case->beginning);
+    write_beginning(writer, retry_case->beginning, !retry_case->is_watched);
 }
 
 static void write_attempt(struct retry_case *retry_case)
@@ -534,6 +544,8 @@ static void make_retry_case(struct retry_case *retry_case, uint64_t seed, uint64
     } while (!may_be_written(&retry_case->map));
     retry_case->memory_length = (size_t)map_sum(&retry_case->map);
     random_bytes(&random, retry_case->memory, retry_case->memory_length);
+    retry_case->is_watched = number / 4 % 2 != 0;
+    choose_words(&random, &retry_case->map, &retry_case->choice);
     begin_part(retry_case, &retry_case->prefix, 1, NULL);
     write_prefix(retry_case);
     retry_case->is_checked = retry_case->prefix.checksum_on;
@@ -552,13 +564,29 @@ static void make_retry_case(struct retry_case *retry_case, uint64_t seed, uint64
 
 /* ---- Feeding ---- */
 
+/* With words chosen: the call, and their numbers read from the bytes that it writes. */
+static void run_watched(const struct retry_case *retry_case, struct outcome *outcome, const uint8_t *fed, size_t length)
+{
+    static uint8_t numbers[CHOICE_LIMIT * NUMBERS_OF_WORD];
+    const struct choice *choice = &retry_case->choice;
+
+    outcome->value = ais_bits_session(retry_case->has_halves, retry_case->is_dm648, retry_case->map.bytes,
+                                      retry_case->map.length, choice->bytes, choice->length, outcome->memory,
+                                      retry_case->memory_length, numbers, choice->numbers_length, fed, length,
+                                      outcome->room, GREETING_LENGTH + 2 * length);
+    for (size_t index = 0; index < 32 * (choice->length / 4); index++)
+        outcome->numbers[index / 32][index % 32] = (uint16_t)(numbers[2 * index] | numbers[2 * index + 1] << 8);
+}
+
 static void run_session(const struct retry_case *retry_case, struct outcome *outcome, const uint8_t *fed, size_t length)
 {
     const struct map *map = &retry_case->map;
     size_t memory_length = retry_case->memory_length, room_length = GREETING_LENGTH + 2 * length;
 
     memcpy(outcome->memory, retry_case->memory, memory_length);
-    if (retry_case->is_dm648)
+    if (retry_case->is_watched)
+        run_watched(retry_case, outcome, fed, length);
+    else if (retry_case->is_dm648)
         outcome->value = ais_dm648_session(retry_case->has_halves, map->bytes, map->length, outcome->memory,
                                            memory_length, fed, length, outcome->room, room_length);
     else
@@ -640,6 +668,50 @@ static bool same_replies(void)
            expect(refusal_of(&with) == refusal_of(&without), "the same refusal");
 }
 
+/* The numbers of all chosen words, with the attempt and without it, but for bits of memory where they may differ. */
+static bool same_numbers(const struct retry_case *retry_case, const uint8_t *may_differ)
+{
+    for (size_t index = 0; retry_case->is_watched && index < 32 * (retry_case->choice.length / 4); index++) {
+        size_t offset = offset_of(&retry_case->map, chosen_word(&retry_case->choice, index / 32)) + index % 32 / 8;
+        if (with.numbers[index / 32][index % 32] == without.numbers[index / 32][index % 32] ||
+            (may_differ != NULL && (may_differ[offset] >> index % 8 & 1) != 0))
+            continue;
+        printf("bit %zu of chosen word %zu: number %u, and without the attempt %u\n", index % 32, index / 32,
+               with.numbers[index / 32][index % 32], without.numbers[index / 32][index % 32]);
+        return false;
+    }
+    return true;
+}
+
+/* The number of the last command in a list that writes a bit of a word, if the first has the one given; 0 for none. */
+static uint32_t number_in(const struct map *map, const struct commands *commands, uint32_t first, uint32_t word,
+                          unsigned bit)
+{
+    size_t offset = offset_of(map, word) + bit / 8;
+
+    for (unsigned index = commands->count; index > 0; index--) {
+        const struct command *command = &commands->list[index - 1];
+        size_t begin = offset_of(map, command->address);
+        if (begin <= offset && (written_bits(command, (uint32_t)(offset - begin)) >> bit % 8 & 1) != 0)
+            return first + index - 1;
+    }
+    return 0;
+}
+
+/* Each bit that the following commands wrote has the number of the last that did, counted on from the prefix. */
+static bool numbers_as_expected(const struct retry_case *retry_case, const struct outcome *outcome, uint32_t first,
+                                uint64_t *seen)
+{
+    for (size_t index = 0; retry_case->is_watched && index < 32 * (retry_case->choice.length / 4); index++) {
+        uint32_t word = chosen_word(&retry_case->choice, index / 32);
+        uint32_t number = number_in(&retry_case->map, &retry_case->repeated, first, word, index % 32);
+        *seen += number != 0;
+        if (number != 0 && outcome->numbers[index / 32][index % 32] != number)
+            return expect(false, "a bit has the number of the last command that wrote it");
+    }
+    return true;
+}
+
 /* Memory differs in the bits that the attempt changed and the commands after it don't write, and in no others. */
 static bool differs_as_expected(const struct retry_case *retry_case, const uint8_t *rewritten)
 {
@@ -662,7 +734,8 @@ static bool leaves_no_trace(const struct retry_case *retry_case, struct tally *t
     feed(retry_case, &after, &retry_case->attempt, NULL, NULL);
     feed(retry_case, &with, &retry_case->attempt, &retry_case->following, NULL);
     feed(retry_case, &without, NULL, &retry_case->following, NULL);
-    if (!case_is_sound(retry_case) || !same_replies() ||
+    if (!case_is_sound(retry_case) || !same_replies() || !same_numbers(retry_case, NULL) ||
+        !numbers_as_expected(retry_case, &without, retry_case->prefix.loaded.now.commands + 1, &tally->numbered) ||
         !expect(memcmp(with.memory, without.memory, length) == 0, "the same memory after the following commands"))
         return false;
     feed(retry_case, &with, &retry_case->attempt, &retry_case->following, &retry_case->continuation);
@@ -670,6 +743,7 @@ static bool leaves_no_trace(const struct retry_case *retry_case, struct tally *t
     tally->beginnings[retry_case->beginning]++;
     tally->by_halves += retry_case->has_halves;
     tally->for_dm648 += retry_case->is_dm648;
+    tally->watched += retry_case->is_watched;
     tally->checked += retry_case->is_checked;
     tally->empty += retry_case->attempted.count == 0;
     tally->with_request += retry_case->has_request;
@@ -679,7 +753,8 @@ static bool leaves_no_trace(const struct retry_case *retry_case, struct tally *t
     }
     tally->changed += memcmp(before.memory, after.memory, length) != 0;
     tally->refused += refusal_of(&with) != 0;
-    return same_replies() && expect(memcmp(with.memory, without.memory, length) == 0, "the same memory at the end");
+    return same_replies() && same_numbers(retry_case, NULL) &&
+           expect(memcmp(with.memory, without.memory, length) == 0, "the same memory at the end");
 }
 
 /* The session ended by entering: the acknowledgement came, from a DM648 also DONE, and nothing was refused. */
@@ -720,13 +795,25 @@ static bool closes_as_expected(const struct retry_case *retry_case, struct tally
            expect(refusal_of(&without) == (retry_case->is_dm648 ? 17 : 0), "wrong totals are 17, for a DM648 only");
 }
 
+/* What is written after a Start-Over that is no attempt has the numbers from the mark before the Request on. */
+static bool is_numbered_anew(const struct retry_case *retry_case, struct tally *tally)
+{
+    const struct loaded *loaded = &retry_case->prefix.loaded;
+    uint64_t seen = 0;
+
+    if (!numbers_as_expected(retry_case, &with, loaded->kept.commands + 1, &seen))
+        return false;
+    tally->traced_by_number += seen > 0 && loaded->kept.commands != loaded->now.commands;
+    return true;
+}
+
 /* A Start-Over alone directly after a Request takes back what stands before that Request. A DM648 shows it where there
-   is any: the totals that should stand are 17. */
+   is any: the totals that should stand are 17. The numbers show it in either dialect. */
 static bool traces_where_it_should(struct retry_case *retry_case, struct tally *tally)
 {
     static struct writer start_over;
     const struct loaded *loaded = &retry_case->prefix.loaded;
-    bool is_traced = retry_case->is_dm648 && memcmp(&loaded->now, &loaded->kept, sizeof loaded->now) != 0;
+    bool is_traced = retry_case->is_dm648 && loaded->now.sections != loaded->kept.sections;
 
     if (!retry_case->has_closing || retry_case->beginning != AFTER_REQUEST)
         return true;
@@ -736,7 +823,8 @@ static bool traces_where_it_should(struct retry_case *retry_case, struct tally *
     feed(retry_case, &without, NULL, &retry_case->following, &retry_case->closing);
     tally->no_attempt++;
     tally->traced += is_traced;
-    return expect(memcmp(with.memory, without.memory, retry_case->memory_length) == 0, "memory has no trace of it") &&
+    return is_numbered_anew(retry_case, tally) &&
+           expect(memcmp(with.memory, without.memory, retry_case->memory_length) == 0, "memory has no trace of it") &&
            expect(has_entered(retry_case, &without), "without it the totals are taken") &&
            expect(refusal_of(&with) == (is_traced ? 17 : 0), "with it they are 17 where sections were taken back");
 }
@@ -777,6 +865,18 @@ static void count_uncovered(const struct retry_case *retry_case, struct tally *t
     tally->uncovered_same += !is_seen;
 }
 
+/* In the bits that the commands after the attempt don't write, numbers may differ, and in no others. */
+static bool numbers_differ_as_expected(const struct retry_case *retry_case, const uint8_t *rewritten, struct tally *tally)
+{
+    static uint8_t left_out[MEMORY_LIMIT];
+
+    for (size_t index = 0; index < retry_case->memory_length; index++)
+        left_out[index] = (uint8_t)(retry_case->attempt_bits[index] & ~rewritten[index]);
+    tally->uncovered_number += retry_case->is_watched && memcmp(with.numbers, without.numbers,
+                                                                retry_case->choice.length / 4 * 64) != 0;
+    return same_numbers(retry_case, left_out);
+}
+
 /* The same attempt, followed by commands that leave one of its bits out. */
 static bool leaves_the_uncovered_bit(struct retry_case *retry_case, struct tally *tally)
 {
@@ -804,7 +904,7 @@ static bool leaves_the_uncovered_bit(struct retry_case *retry_case, struct tally
     return expect((rewritten[offset] >> bit & 1) == 0, "the bit is left out") &&
            expect(refusal_of(&with) == 0, "the commands that leave a bit out are accepted") && same_replies() &&
            expect(is_seen == was_changed, "the bit left out differs just when the attempt changed it") &&
-           differs_as_expected(retry_case, rewritten);
+           differs_as_expected(retry_case, rewritten) && numbers_differ_as_expected(retry_case, rewritten, tally);
 }
 
 /* ---- The whole run ---- */
@@ -819,6 +919,8 @@ static void print_tally(const struct tally *tally)
         printf("attempts after %-24s%10" PRIu64 "\n", names[index], tally->beginnings[index]);
     printf("%-39s%10" PRIu64 "\n", "attempts by halves, the others by bytes", tally->by_halves);
     printf("%-39s%10" PRIu64 "\n", "attempts on a DM648, the others AM17xx", tally->for_dm648);
+    printf("%-39s%10" PRIu64 "\n", "attempts with words chosen", tally->watched);
+    printf("%-39s%10" PRIu64 "\n", "  bits whose number is as expected", tally->numbered);
     printf("%-39s%10" PRIu64 "\n", "attempts with the checksum on", tally->checked);
     printf("%-39s%10" PRIu64 "\n", "attempts with no command", tally->empty);
     printf("%-39s%10" PRIu64 "\n", "attempts with a Request", tally->with_request);
@@ -830,20 +932,23 @@ static void print_tally(const struct tally *tally)
     printf("%-39s%10" PRIu64 "\n", "  exactly one", tally->uncovered_single);
     printf("%-39s%10" PRIu64 "\n", "  changed, and the difference seen", tally->uncovered_seen);
     printf("%-39s%10" PRIu64 "\n", "  written as it was, and no difference", tally->uncovered_same);
+    printf("%-39s%10" PRIu64 "\n", "  with the attempt's number in it", tally->uncovered_number);
     printf("%-39s%10" PRIu64 "\n", "closed and entered, AM17xx", tally->closed[0]);
     printf("%-39s%10" PRIu64 "\n", "closed and entered, DM648", tally->closed[1]);
     printf("%-39s%10" PRIu64 "\n", "  with sections in the attempt", tally->counted);
     printf("%-39s%10" PRIu64 "\n", "a Start-Over alone after a Request", tally->no_attempt);
-    printf("%-39s%10" PRIu64 "\n", "  and its trace seen", tally->traced);
+    printf("%-39s%10" PRIu64 "\n", "  and its trace seen in the totals", tally->traced);
+    printf("%-39s%10" PRIu64 "\n", "  and in the numbers", tally->traced_by_number);
 }
 
 /* Every beginning, every kind over a seam, a difference seen in a tenth of the cases, totals that an attempt could have
-   spoilt in another tenth, and the trace of what is no attempt in a fiftieth. */
+   spoilt in another tenth, and traces of what is no attempt in the totals and in the numbers. */
 static bool enough_met(const struct tally *tally, uint64_t count)
 {
     bool is_met = tally->by_halves > 0 && tally->for_dm648 > 0 && tally->empty > 0 && tally->with_request > 0;
 
     is_met &= tally->uncovered_seen >= count / 10 && tally->closed[0] >= count / 10;
+    is_met &= tally->numbered > count && tally->uncovered_number >= count / 50 && tally->traced_by_number >= count / 100;
     is_met &= tally->counted >= count / 10 && tally->traced >= count / 50 && tally->no_attempt > tally->traced;
     for (unsigned index = 0; index < BEGINNINGS; index++)
         is_met &= tally->beginnings[index] > 0;

@@ -131,13 +131,11 @@ static void clear_checksum(struct writer *writer)
 
 static struct totals sum_of(struct totals left, struct totals right)
 {
-    return (struct totals){left.sections + right.sections, left.bytes + right.bytes};
+    return (struct totals){left.sections + right.sections, left.bytes + right.bytes, left.commands + right.commands};
 }
 
-static void count_section(struct writer *writer, uint32_t size)
+static void count_command(struct writer *writer, struct totals one)
 {
-    struct totals one = {1, size};
-
     writer->loaded.now = sum_of(writer->loaded.now, one);
     for (unsigned index = 0; index < writer->mark_count; index++)
         writer->marks[index].since = sum_of(writer->marks[index].since, one);
@@ -213,7 +211,7 @@ void write_mark(struct writer *writer)
     if (writer->mark_count < MARK_LIMIT) {
         writer->marks[writer->mark_count].offset = writer->length;
         writer->marks[writer->mark_count].checksum = 0;
-        writer->marks[writer->mark_count].since = (struct totals){0, 0};
+        writer->marks[writer->mark_count].since = (struct totals){0, 0, 0};
         writer->mark_count++;
     }
 }
@@ -240,7 +238,7 @@ void write_load(struct writer *writer, uint32_t address, uint32_t size)
     write_opcode(writer, OPCODE_LOAD);
     write_word(writer, address);
     write_word(writer, size);
-    count_section(writer, size);
+    count_command(writer, (struct totals){1, size, 1});
     cover(writer, address, 32);
     cover(writer, size, 32);
     write_load_data(writer, size);
@@ -251,7 +249,7 @@ void write_fill(struct writer *writer, uint32_t address, uint32_t size, uint32_t
     const uint32_t arguments[] = {address, size, type, pattern};
 
     write_opcode(writer, OPCODE_FILL);
-    count_section(writer, size);
+    count_command(writer, (struct totals){1, size, 1});
     for (unsigned index = 0; index < 4; index++) {
         write_word(writer, arguments[index]);
         cover(writer, arguments[index], 32);
@@ -269,6 +267,7 @@ void write_vanishing_fill(struct writer *writer, uint32_t address, uint32_t size
 void write_setting(struct writer *writer, uint32_t type, uint32_t address, uint32_t data, uint32_t delay)
 {
     write_opcode(writer, OPCODE_BOOT_TABLE);
+    count_command(writer, (struct totals){0, 0, 1});
     write_word(writer, type);
     write_word(writer, address);
     write_word(writer, data);

@@ -67,10 +67,11 @@ enum {
 
 enum { SCRIPT_LIMIT = 140000, MARK_LIMIT = 32 };
 
-/* How many sections were loaded, and how many bytes they have. */
+/* How many sections were loaded, how many bytes they have, and how many commands have a number: sections and settings. */
 struct totals {
     uint32_t sections;
     uint32_t bytes;
+    uint32_t commands;
 };
 
 /* A place where a command begins, what the register would hold if it had been 0 there, and what was loaded since. */
@@ -80,7 +81,7 @@ struct mark {
     struct totals since;
 };
 
-/* What a DM648 has loaded: the totals that stand, those that a retry would leave, and whether the last opcode was a
+/* What a session has loaded: the totals that stand, those that a retry would leave, and whether the last opcode was a
    Request on the line, after which a retry may still come. */
 struct loaded {
     struct totals now;

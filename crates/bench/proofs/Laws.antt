@@ -9,7 +9,7 @@ use Rattle.words.proofs.Choice.{of-choice}
 use Rattle.windows.specs.declared.Window.{Window}
 use Rattle.script.specs.declared.Dialect.{Dialect}
 use Rattle.flash.specs.Calls.{Way, forward, back, kept, Call}
-use Rattle.flash.specs.Opening.{openedBy}
+use Rattle.flash.specs.Opening.{openedBy, numberingFrom}
 use Rattle.flash.specs.Sessions.{Outcome}
 use Rattle.flash.specs.Step.{stepOf}
 use Rattle.flash.specs.declared.Called.{Called}
@@ -47,7 +47,7 @@ module _ (bound : ℕ) where
         of-choice (λ (x : Outcome). x .answer .at ≤ bound) _
         (λ more. carried-at n _ (call-at standing call) (call-within standing call)) (λ none. h)
 
-    run-at : (s : Session) (m : List ℕ) → Within s → runOf s m image .answer .at ≤ bound
+    pub run-at : (s : Session) (m : List ℕ) → Within s → runOf s m image .answer .at ≤ bound
     unfolding runOf
     run-at s m standing =
         let call = every-call s m image in
@@ -63,6 +63,14 @@ opened-within dialect count windows image limit =
     (λ e. of-choice Short _ (λ e. (omega arith, omega arith))
     (λ sound. of-choice Short _ (λ e. (omega arith, omega arith))
     (λ e. (omega arith, length-small (length image) (not-false _ sound)))))
+
+-- and so does one whose commands are numbered
+pub numbered-within : (dialect : Dialect) (count : ℕ) (windows : List Window) (image : List ℕ) (limit : ℕ)
+    → Within 65536 (numberingFrom (openedBy dialect count windows image limit) .session)
+unfolding numberingFrom
+numbered-within dialect count windows image limit =
+    let within = opened-within dialect count windows image limit in
+    of-choice (λ (o : Opened). Within 65536 (o .session)) _ (λ e. within) (λ e. within)
 
 -- the offset that a run from an opening reports
 pub ran-at : (dialect : Dialect) (count : ℕ) (windows : List Window) (m image : List ℕ) (limit : ℕ)

@@ -1,5 +1,3 @@
-pub mod Cases
-pub mod Fitting
+pub mod BitRuns
 pub mod Laws
-pub mod Reaching
 pub mod RegisterCalls

@@ -1,4 +1,4 @@
-pub mod Feeding
+pub mod Bits
 pub mod Fetched
 pub mod Registers
 pub mod Runs

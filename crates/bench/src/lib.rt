@@ -2,34 +2,16 @@
 pub mod registers;
 
 ghost use mathlib.Core.Path.{_≡_};
-ghost use Prim.Native.Nat.{_+_, _*_, _/_, _%_, _^_, _≤_, _<_};
-ghost use lib.Dec.{eqb};
-ghost use lib.ListN.{length};
-ghost use lib.Seq.{sets};
+ghost use Prim.Native.Nat.{_+_, _*_, _/_, _^_, _≤_};
 ghost use Rattle.words.specs.Choice.{pick};
 ghost use Rattle.script.specs.Answers.{numberOf};
-ghost use Rattle.sent.specs.Bus.{unitsFed};
-ghost use Rattle.sent.specs.Replies.{sentBytes};
 ghost use Rattle.hex.specs.Text.{readAnswer, readRoom, writeAnswer, writeRoom};
-ghost use Rattle.bench.specs.Feeding.{
-  firstOf,
-  fedAll,
-  greeted,
-  unitBytes,
-  mostFed,
-  openingRoom,
-  unitRoom,
-  roomy,
-  sessionFrom,
-  tallied,
-  laidIn,
-  sentValue,
-  sentMemory,
-  sentRoom,
-  lineSession,
-};
+ghost use Rattle.feeding.specs.Feeding.{tallied, laidIn, sentValue, sentMemory, sentRoom, lineSession};
+ghost use Rattle.feeding.specs.Numbers.{bitsSession};
+ghost use Rattle.bench.specs.Bits.{bitsFrom, bitsRun};
 ghost use Rattle.bench.specs.Fetched.{fetchedReport, fetchedValue};
 ghost use Rattle.bench.specs.Runs.{ranFrom, reported, flashValue, flashMemory};
+use chosen::Choice;
 use flash::Called;
 use flash::Opened;
 use flash::Session;
@@ -37,17 +19,15 @@ use script::Dialect;
 use script::Event;
 use script::Refusal;
 use sent::Bus;
-use sent::Reply;
 
-// The most units that are fed in one call.
-const MOST_FED: usize = 65536;
-
-// The room that the opening's reply needs, and that the replies to each byte and to each half need.
-const OPENING_ROOM: usize = 6;
-
-const BYTE_ROOM: usize = 2;
-
-const HALF_ROOM: usize = 4;
+// Four numbers in one: refusal, retries, an offset in words, register.
+fn pack(refusal: u8, retries: u8, at: u32, register: u32) -> u64
+    requires { ⌜ at ≤ 65536 ⌝ }
+    ensures { λ r. ⌜ r ≡ refusal * 2 ^ 56 + retries * 2 ^ 48 + at / 4 * 2 ^ 32 + register ⌝ }
+{
+    let words = (at as u64) / 4;
+    ((refusal as u64) << 56) + ((retries as u64) << 48) + (words << 32) + (register as u64)
+}
 
 // An answer in one number: refusal, retries, offset of the last command in words, register.
 fn report(called: Called) -> u64
@@ -55,13 +35,15 @@ fn report(called: Called) -> u64
     ensures { λ r. ⌜ r ≡ reported called ⌝ }
 {
     let refusal = called.refusal;
-    let number = refusal.number() as u64;
-    let retries = called.session.retries as u64;
-    let words = (called.at as u64) / 4;
-    (number << 56) + (retries << 48) + (words << 32) + (called.session.register as u64)
+    pack(
+        refusal.number(),
+        called.session.retries,
+        called.at,
+        called.session.register,
+    )
 }
 
-// Runs the image from an opening; where that is refused, nothing is run.
+// Runs the image from an opening, with no word chosen; where that is refused, nothing is run. Plain runs and watched ones share one loop, so that the step has one caller.
 fn run_from(opened: Opened, memory: &mut [u8], image: &[u8]) -> Called
     ensures { λ r. ⌜ r ≡ ranFrom opened (now (memory .entry)) (now (image .entry)) .answer ⌝ }
     ensures { λ _. ⌜ now (memory .exit) ≡ ranFrom opened (now (memory .entry)) (now (image .entry)) .memory ⌝ }
@@ -69,13 +51,17 @@ fn run_from(opened: Opened, memory: &mut [u8], image: &[u8]) -> Called
     let refusal = opened.refusal;
     let session = opened.session;
     if refusal.number() == 0 {
-        return runs::run(session, memory, image);
+        let places = [0usize; 1];
+        let mut none = [0u8; 1];
+        return watched::run(session, 0, &places, memory, image, &mut none);
     }
+    let wrote = commands::wrote_none();
     Called {
         refusal,
         event: Event::Nothing,
         at: 0,
         session,
+        wrote,
     }
 }
 
@@ -140,164 +126,6 @@ pub extern "C" fn ais_dm648_run(map: &[u8], memory: &mut [u8], image: &[u8], lim
     run_image(Dialect::Dm648, map, memory, image, limit, false)
 }
 
-// Writes a reply into the room from a place on; the place past it.
-fn put_reply(room: &mut [u8], at: usize, reply: Reply) -> usize
-    requires { ⌜ at ≤ length (now room) ⌝ }
-    ensures { λ r. ⌜ r ≡ at + length (sentBytes reply) ⌝ }
-    ensures { λ _. ⌜ now (room .exit) ≡ sets (now (room .entry)) at (sentBytes reply) ⌝ }
-{
-    let bytes = reply.bytes;
-    let count = reply.count as usize;
-    let mut i: usize = 0;
-    while i < sent::Session::MOST_REPLY {
-        if count <= i {
-            return at + i;
-        }
-        words::put_byte(room, at + i, bytes[i]);
-        i += 1;
-    }
-    at + i
-}
-
-// The first of two refusals.
-fn first_of(first: u8, refusal: Refusal) -> u8
-    ensures { λ r. ⌜ r ≡ firstOf first (numberOf refusal) ⌝ }
-{
-    if first == 0 {
-        return refusal.number();
-    }
-    first
-}
-
-// How many units so many lent bytes are.
-fn units_in(bus: Bus, lent: usize) -> usize
-    ensures { λ r. ⌜ r ≡ lent / unitBytes bus ⌝ }
-{
-    match bus {
-        Bus::Bytes => lent,
-        Bus::Halves => lent / 2,
-    }
-}
-
-// Are so many lent bytes whole units?
-fn are_whole(bus: Bus, lent: usize) -> bool
-    ensures { λ r. ⌜ r ≡ eqb (lent % unitBytes bus) 0 ⌝ }
-{
-    match bus {
-        Bus::Bytes => true,
-        Bus::Halves => lent % 2 == 0,
-    }
-}
-
-// The room that an opening and the replies to n units need.
-fn room_for(bus: Bus, n: usize) -> usize
-    requires { ⌜ n ≤ mostFed ⌝ }
-    ensures { λ r. ⌜ r ≡ openingRoom bus + unitRoom bus * n ⌝ }
-{
-    match bus {
-        Bus::Bytes => OPENING_ROOM + BYTE_ROOM * n,
-        Bus::Halves => HALF_ROOM * n,
-    }
-}
-
-// Feeds all units; the replies go to the room, the opening's first.
-fn feed_all(
-    bus: Bus,
-    session: sent::Session,
-    opening: Reply,
-    memory: &mut [u8],
-    fed: &[u8],
-    room: &mut [u8],
-) -> u64
-    requires { ⌜ (session .line .have ≡ 0) × ((length (sentBytes opening) ≤ openingRoom bus) × ((length (unitsFed bus (now fed)) ≤ mostFed) × (openingRoom bus + unitRoom bus * length (unitsFed bus (now fed)) ≤ length (now room)))) ⌝ }
-    ensures { λ r. ⌜ r ≡ tallied (greeted opening (fedAll bus session (now (memory .entry)) (unitsFed bus (now (fed .entry))))) ⌝ }
-    ensures { λ _. ⌜ now (memory .exit) ≡ fedAll bus session (now (memory .entry)) (unitsFed bus (now (fed .entry))) .memory ⌝ }
-    ensures { λ _. ⌜ now (room .exit) ≡ laidIn (now (room .entry)) (greeted opening (fedAll bus session (now (memory .entry)) (unitsFed bus (now (fed .entry))))) ⌝ }
-{
-    let n = units_in(bus, fed.len());
-    let mut count = put_reply(room, 0, opening);
-    let mut first: u8 = 0;
-    let mut live = session;
-    let mut i: usize = 0;
-    while i < n {
-        let answer = live.step_at(memory, bus, fed, i);
-        let refusal = answer.refusal;
-        let reply = answer.reply;
-        count = put_reply(room, count, reply);
-        first = first_of(first, refusal);
-        live = answer.session;
-        i += 1;
-    }
-    ((first as u64) << 32) + (count as u64)
-}
-
-// Are so many lent bytes whole units, few enough, and is the room long enough for all replies to them?
-fn is_roomy(bus: Bus, lent: usize, room: usize) -> bool
-    ensures { λ r. ⌜ r ≡ roomy bus lent room ⌝ }
-{
-    if !are_whole(bus, lent) {
-        return false;
-    }
-    let n = units_in(bus, lent);
-    if n <= MOST_FED {
-        return room_for(bus, n) <= room;
-    }
-    false
-}
-
-// The value of a session that is refused before anything is fed.
-fn refuse(refusal: Refusal) -> u64
-    ensures { λ r. ⌜ r ≡ numberOf refusal * 2 ^ 32 ⌝ }
-{
-    (refusal.number() as u64) << 32
-}
-
-// A session from its opening.
-fn session_from(
-    bus: Bus,
-    opened: sent::Opened,
-    memory: &mut [u8],
-    fed: &[u8],
-    room: &mut [u8],
-) -> u64
-    requires { ⌜ (opened .session .line .have ≡ 0) × (length (sentBytes (opened .reply)) ≤ openingRoom bus) ⌝ }
-    ensures { λ r. ⌜ r ≡ tallied (sessionFrom bus opened (now (memory .entry)) (now (fed .entry)) (length (now (room .entry)))) ⌝ }
-    ensures { λ _. ⌜ now (memory .exit) ≡ sessionFrom bus opened (now (memory .entry)) (now (fed .entry)) (length (now (room .entry))) .memory ⌝ }
-    ensures { λ _. ⌜ now (room .exit) ≡ laidIn (now (room .entry)) (sessionFrom bus opened (now (memory .entry)) (now (fed .entry)) (length (now (room .entry)))) ⌝ }
-{
-    let refusal = opened.refusal;
-    if refusal.number() != 0 {
-        return refuse(refusal);
-    }
-    let session = opened.session;
-    let opening = opened.reply;
-    let windows = session.core.windows;
-    if memory.len() != windows::sum(windows) {
-        return refuse(Refusal::Memory);
-    }
-    if !is_roomy(bus, fed.len(), room.len()) {
-        return refuse(Refusal::Call);
-    }
-    feed_all(bus, session, opening, memory, fed, room)
-}
-
-// One whole sent session on a line, in a dialect.
-fn session_on(
-    bus: Bus,
-    dialect: Dialect,
-    map: &[u8],
-    memory: &mut [u8],
-    fed: &[u8],
-    room: &mut [u8],
-) -> u64
-    ensures { λ r. ⌜ r ≡ sentValue bus dialect (now (map .entry)) (now (memory .entry)) (now (fed .entry)) (now (room .entry)) ⌝ }
-    ensures { λ _. ⌜ now (memory .exit) ≡ sentMemory bus dialect (now (map .entry)) (now (memory .entry)) (now (fed .entry)) (now (room .entry)) ⌝ }
-    ensures { λ _. ⌜ now (room .exit) ≡ sentRoom bus dialect (now (map .entry)) (now (memory .entry)) (now (fed .entry)) (now (room .entry)) ⌝ }
-{
-    let opened = sent::open_on(bus, dialect, maps::count_of(map), maps::windows_of(map));
-    session_from(bus, opened, memory, fed, room)
-}
-
 // One whole sent session on the line of bytes.
 #[no_mangle]
 pub extern "C" fn ais_sent_session(
@@ -310,7 +138,7 @@ pub extern "C" fn ais_sent_session(
     ensures { λ _. ⌜ now (memory .exit) ≡ sentMemory Bus.Bytes Dialect.Am17xx (now (map .entry)) (now (memory .entry)) (now (fed .entry)) (now (room .entry)) ⌝ }
     ensures { λ _. ⌜ now (room .exit) ≡ sentRoom Bus.Bytes Dialect.Am17xx (now (map .entry)) (now (memory .entry)) (now (fed .entry)) (now (room .entry)) ⌝ }
 {
-    session_on(Bus::Bytes, Dialect::Am17xx, map, memory, fed, room)
+    feeding::session_on(Bus::Bytes, Dialect::Am17xx, map, memory, fed, room)
 }
 
 // One whole sent session on the line of halves, each lent as two bytes, the low one first.
@@ -325,7 +153,7 @@ pub extern "C" fn ais_half_session(
     ensures { λ _. ⌜ now (memory .exit) ≡ sentMemory Bus.Halves Dialect.Am17xx (now (map .entry)) (now (memory .entry)) (now (fed .entry)) (now (room .entry)) ⌝ }
     ensures { λ _. ⌜ now (room .exit) ≡ sentRoom Bus.Halves Dialect.Am17xx (now (map .entry)) (now (memory .entry)) (now (fed .entry)) (now (room .entry)) ⌝ }
 {
-    session_on(Bus::Halves, Dialect::Am17xx, map, memory, fed, room)
+    feeding::session_on(Bus::Halves, Dialect::Am17xx, map, memory, fed, room)
 }
 
 // One whole sent session of a DM648, on the line of a number: 0 bytes, 1 halves; any other is refused with 19 before anything else is judged.
@@ -341,13 +169,95 @@ pub extern "C" fn ais_dm648_session(
     ensures { λ _. ⌜ now (memory .exit) ≡ lineSession line Dialect.Dm648 (now (map .entry)) (now (memory .entry)) (now (fed .entry)) (now (room .entry)) .memory ⌝ }
     ensures { λ _. ⌜ now (room .exit) ≡ laidIn (now (room .entry)) (lineSession line Dialect.Dm648 (now (map .entry)) (now (memory .entry)) (now (fed .entry)) (now (room .entry))) ⌝ }
 {
-    if line == 0 {
-        return session_on(Bus::Bytes, Dialect::Dm648, map, memory, fed, room);
+    feeding::line_session(line, Dialect::Dm648, map, memory, fed, room)
+}
+
+// One whole sent session on a line and in a dialect by number, with the numbers of chosen words beside it.
+#[no_mangle]
+pub extern "C" fn ais_bits_session(
+    line: u8,
+    dialect: u8,
+    map: &[u8],
+    chosen: &[u8],
+    memory: &mut [u8],
+    numbers: &mut [u8],
+    fed: &[u8],
+    room: &mut [u8],
+) -> u64
+    ensures { λ r. ⌜ r ≡ tallied (bitsSession line dialect (now (map .entry)) (now (chosen .entry)) (now (memory .entry)) (now (numbers .entry)) (now (fed .entry)) (now (room .entry)) .fed) ⌝ }
+    ensures { λ _. ⌜ now (memory .exit) ≡ bitsSession line dialect (now (map .entry)) (now (chosen .entry)) (now (memory .entry)) (now (numbers .entry)) (now (fed .entry)) (now (room .entry)) .fed .memory ⌝ }
+    ensures { λ _. ⌜ now (room .exit) ≡ laidIn (now (room .entry)) (bitsSession line dialect (now (map .entry)) (now (chosen .entry)) (now (memory .entry)) (now (numbers .entry)) (now (fed .entry)) (now (room .entry)) .fed) ⌝ }
+    ensures { λ _. ⌜ now (numbers .exit) ≡ bitsSession line dialect (now (map .entry)) (now (chosen .entry)) (now (memory .entry)) (now (numbers .entry)) (now (fed .entry)) (now (room .entry)) .numbers ⌝ }
+{
+    feeding::bits_session(line, dialect, map, chosen, memory, numbers, fed, room)
+}
+
+// The value of a run that is refused before the first command.
+fn refuse_run(refusal: Refusal) -> u64
+    ensures { λ r. ⌜ r ≡ numberOf refusal * 2 ^ 56 ⌝ }
+{
+    (refusal.number() as u64) << 56
+}
+
+// A flash run with numbers from its opening and its choice.
+fn bits_from(
+    choice: Choice,
+    opened: Opened,
+    memory: &mut [u8],
+    numbers: &mut [u8],
+    image: &[u8],
+) -> u64
+    requires { ⌜ (opened .session .offset ≤ 65536) × (opened .session .length ≤ 65536) ⌝ }
+    ensures { λ r. ⌜ r ≡ bitsFrom opened choice (now (memory .entry)) (now (numbers .entry)) (now (image .entry)) .value ⌝ }
+    ensures { λ _. ⌜ now (memory .exit) ≡ bitsFrom opened choice (now (memory .entry)) (now (numbers .entry)) (now (image .entry)) .memory ⌝ }
+    ensures { λ _. ⌜ now (numbers .exit) ≡ bitsFrom opened choice (now (memory .entry)) (now (numbers .entry)) (now (image .entry)) .numbers ⌝ }
+{
+    let opening = opened.refusal;
+    let session = opened.session;
+    let windows = session.windows;
+    let refusal = feeding::bar(
+        opening,
+        choice,
+        numbers.len(),
+        memory.len(),
+        windows::sum(windows),
+    );
+    if refusal.number() != 0 {
+        return refuse_run(refusal);
     }
-    if line == 1 {
-        return session_on(Bus::Halves, Dialect::Dm648, map, memory, fed, room);
+    feeding::clear(numbers);
+    let count = choice.chosen.count;
+    let places = choice.chosen.places;
+    report(watched::run(session, count, &places, memory, image, numbers))
+}
+
+// One whole flash run in a dialect by number, with the numbers of chosen words beside it.
+#[no_mangle]
+pub extern "C" fn ais_bits_run(
+    dialect: u8,
+    map: &[u8],
+    chosen: &[u8],
+    memory: &mut [u8],
+    numbers: &mut [u8],
+    image: &[u8],
+    limit: u8,
+) -> u64
+    ensures { λ r. ⌜ r ≡ bitsRun dialect (now (map .entry)) (now (chosen .entry)) (now (memory .entry)) (now (numbers .entry)) (now (image .entry)) limit .value ⌝ }
+    ensures { λ _. ⌜ now (memory .exit) ≡ bitsRun dialect (now (map .entry)) (now (chosen .entry)) (now (memory .entry)) (now (numbers .entry)) (now (image .entry)) limit .memory ⌝ }
+    ensures { λ _. ⌜ now (numbers .exit) ≡ bitsRun dialect (now (map .entry)) (now (chosen .entry)) (now (memory .entry)) (now (numbers .entry)) (now (image .entry)) limit .numbers ⌝ }
+{
+    if 1 < dialect {
+        return refuse_run(Refusal::Call);
     }
-    refuse(Refusal::Call)
+    let opened = Session::open_numbering(
+        feeding::dialect_of(dialect),
+        maps::count_of(map),
+        maps::windows_of(map),
+        image,
+        limit,
+    );
+    let choice = feeding::choose_on(map, chosen);
+    bits_from(choice, opened, memory, numbers, image)
 }
 
 // A text of hexadecimal digits read into an image: 0 or the refusal.

@@ -8,8 +8,8 @@ use Rattle.windows.specs.Map.{zeroWindow}
 use Rattle.windows.specs.declared.Window.{Window}
 use Rattle.script.specs.Answers.{numberOf, valueOf}
 use Rattle.script.specs.declared.Dialect.{Dialect}
-use Rattle.script.specs.declared.Event.the-variants.{Nothing}
 use Rattle.flash.specs.Opening.{openedBy}
+use Rattle.flash.specs.Sessions.{unchanged}
 use Rattle.flash.specs.declared.Called.{Called}
 use Rattle.flash.specs.declared.Opened.{Opened}
 use Rattle.runs.specs.Run.{runOf}
@@ -39,7 +39,7 @@ reported a =
 unfoldable pub lastAnswer : List ℕ → Opened → Called
 lastAnswer image o =
     pick (eqb (numberOf (o .refusal)) 0) (runOf (o .session) (replicate 4096 0) image .answer)
-    (record { refusal = o .refusal; event = Nothing; at = 0; session = o .session })
+    (unchanged (o .refusal) (o .session))
 
 unfoldable pub reportOf : Dialect → List ℕ → Report
 reportOf dialect image = reported (lastAnswer image (opened dialect image))

@@ -73,11 +73,13 @@ fn answer_to(image: &[u8], opened: Opened) -> Called
         let mut memory = [0u8; 4096];
         return runs::run(session, &mut memory, image);
     }
+    let wrote = commands::wrote_none();
     Called {
         refusal,
         event: Event::Nothing,
         at: 0,
         session,
+        wrote,
     }
 }
 

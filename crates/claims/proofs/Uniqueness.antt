@@ -24,6 +24,9 @@ use Rattle.script.proofs.Event.kind.Reads as kind
 use Rattle.script.proofs.Event.value.Reads as value
 use Rattle.script.proofs.look_up.Reads as look_up
 use Rattle.totals.proofs.Totals.zero.Reads as totals-zero
+use Rattle.totals.proofs.Totals.from_one.Reads as totals-from-one
+use Rattle.totals.proofs.Totals.is_spent.Reads as totals-is-spent
+use Rattle.totals.proofs.Totals.number.Reads as totals-number
 use Rattle.totals.proofs.Totals.would_pass.Reads as totals-would-pass
 use Rattle.totals.proofs.Totals.differ.Reads as totals-differ
 use Rattle.totals.proofs.Totals.count.Reads as totals-count
@@ -42,9 +45,13 @@ use Rattle.commands.proofs.load.Reads as load
 use Rattle.commands.proofs.fill.Reads as fill
 use Rattle.commands.proofs.boot_table.Reads as boot_table
 use Rattle.commands.proofs.jump_and_close.Reads as jump_and_close
+use Rattle.commands.proofs.wrote_none.Reads as wrote_none
+use Rattle.commands.proofs.wrote_bytes.Reads as wrote_bytes
+use Rattle.commands.proofs.wrote_setting.Reads as wrote_setting
 use Rattle.commands.proofs.seek.Reads as seek
 use Rattle.flash.proofs.is_length.Reads as is_length
 use Rattle.flash.proofs.Session.«open».Reads as flash-opening
+use Rattle.flash.proofs.Session.open_numbering.Reads as flash-numbering
 use Rattle.flash.proofs.Session.step.Reads as flash-step
 use Rattle.runs.proofs.run.Reads as run
 use Rattle.checking.proofs.check.Reads as check
@@ -61,6 +68,7 @@ use Rattle.survey.proofs.Survey.totals.Reads as survey-totals
 use Rattle.sent.proofs.Session.«open».Reads as sent-opening
 use Rattle.sent.proofs.Session.open_halves.Reads as half-opening
 use Rattle.sent.proofs.open_on.Reads as opening-on
+use Rattle.sent.proofs.open_numbering.Reads as sent-numbering
 use Rattle.sent.proofs.Session.step.Reads as sent-step
 use Rattle.sent.proofs.Session.step_half.Reads as half-step
 use Rattle.sent.proofs.Session.step_at.Reads as step-at
@@ -86,7 +94,7 @@ use Rattle.port.specs.declared.Told.{Told}
 
 module _ {K : Type 0} {A R E : K → Type 0} (Post : (κs : K) → A κs → R κs → E κs → Type 0) where
   -- any two outcomes that a contract allows at the same arguments agree
-  abbrev Coincide : ((κs : K) → R κs → R κs → E κs → E κs → Type 0) → Type 0
+  abbrev pub Coincide : ((κs : K) → R κs → R κs → E κs → E κs → Type 0) → Type 0
   Coincide Agree = (κs : K) (a : A κs) (r s : R κs) (e f : E κs) → Post κs a r e → Post κs a s f → Agree κs r s e f
 
   -- in the result; in a memory at exit; in both
@@ -171,6 +179,15 @@ look-up-unique κs a r s e f = same
 pub totals-zero-unique : OneResult totals-zero.Post
 totals-zero-unique κs a r s e f = same
 
+pub totals-from-one-unique : OneResult totals-from-one.Post
+totals-from-one-unique κs a r s e f = same
+
+pub totals-is-spent-unique : OneResult totals-is-spent.Post
+totals-is-spent-unique κs a r s e f = same
+
+pub totals-number-unique : OneResult totals-number.Post
+totals-number-unique κs a r s e f = same
+
 pub totals-would-pass-unique : OneResult totals-would-pass.Post
 totals-would-pass-unique κs a r s e f = same
 
@@ -211,6 +228,15 @@ judge-setting-unique κs a r s e f = same
 pub judge-entry-unique : OneResult judge_entry.Post
 judge-entry-unique κs a r s e f = same
 
+pub wrote-none-unique : OneResult wrote_none.Post
+wrote-none-unique κs a r s e f = same
+
+pub wrote-bytes-unique : OneResult wrote_bytes.Post
+wrote-bytes-unique κs a r s e f = same
+
+pub wrote-setting-unique : OneResult wrote_setting.Post
+wrote-setting-unique κs a r s e f = same
+
 pub judge-load-unique : OneResult judge_load.Post
 judge-load-unique κs a r s e f = same
 
@@ -235,6 +261,9 @@ is-length-unique κs a r s e f = same
 
 pub flash-open-unique : OneResult flash-opening.Post
 flash-open-unique κs a r s e f = same
+
+pub flash-open-numbering-unique : OneResult flash-numbering.Post
+flash-open-numbering-unique κs a r s e f = same
 
 pub flash-step-unique : OneResultAndMemory flash-step.Post (λ κs e. now (e .1 .0))
 flash-step-unique κs a r s e f = both-same
@@ -287,6 +316,9 @@ half-open-unique κs a r s e f = same
 
 pub open-on-unique : OneResult opening-on.Post
 open-on-unique κs a r s e f = same
+
+pub sent-open-numbering-unique : OneResult sent-numbering.Post
+sent-open-numbering-unique κs a r s e f = same
 
 pub sent-step-unique : OneResultAndMemory sent-step.Post (λ κs e. now (e .1 .0))
 sent-step-unique κs a r s e f = both-same

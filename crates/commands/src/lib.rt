@@ -38,6 +38,7 @@ ghost use Rattle.commands.specs.Commands.{
   closeDone,
   soughtFrom,
 };
+ghost use Rattle.commands.specs.Wrote.{noneWrote, bytesWrote, shapeWrote, settingWrote};
 use script::Event;
 use script::Refusal;
 use windows::Place;
@@ -68,6 +69,14 @@ pub enum UnitType {
 pub enum Shape {
     Bits(Unit, u32, u32, bool),
     Wrong,
+}
+
+// The bits of memory that a command wrote, and its number: from bit `start` of the byte at `place` on, `count` of them.
+pub struct Wrote {
+    pub place: usize,
+    pub count: usize,
+    pub start: u32,
+    pub number: u32,
 }
 
 // Where a seek leads.
@@ -471,6 +480,58 @@ pub fn boot_table(
 {
     set_shape(memory, judged, shape_of(word), value);
     answer(judged, register, Event::Wait(delay), register)
+}
+
+// No bits were written.
+pub fn wrote_none() -> Wrote
+    ensures { λ r. ⌜ r ≡ noneWrote ⌝ }
+{
+    Wrote {
+        place: 0,
+        start: 0,
+        count: 0,
+        number: 0,
+    }
+}
+
+// What a load or a fill that was judged writes: all bits of its bytes.
+pub fn wrote_bytes(judged: Judged, size: u32, number: u32) -> Wrote
+    ensures { λ r. ⌜ r ≡ bytesWrote judged size number ⌝ }
+{
+    match judged {
+        Judged::Granted(place) => Wrote {
+            place,
+            start: 0,
+            count: 8 * (size as usize),
+            number,
+        },
+        Judged::Refused(_) => wrote_none(),
+    }
+}
+
+// What a shape at a place writes.
+fn wrote_shape(place: usize, shape: Shape, number: u32) -> Wrote
+    ensures { λ r. ⌜ r ≡ shapeWrote place shape number ⌝ }
+{
+    match shape {
+        Shape::Wrong => wrote_none(),
+        Shape::Bits(_, start, width, _) => Wrote {
+            place,
+            start,
+            count: width as usize,
+            number,
+        },
+    }
+}
+
+// What a Boot Table that was judged writes: the bits of its shape.
+pub fn wrote_setting(judged: Judged, word: u32, number: u32) -> Wrote
+    ensures { λ r. ⌜ r ≡ settingWrote judged word number ⌝ }
+{
+    match judged {
+        Judged::Granted(place) => wrote_shape(place, shape_of(word), number),
+        Judged::Refused(_) => wrote_none(),
+    }
 }
 
 // May an address be entered?

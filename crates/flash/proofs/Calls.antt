@@ -25,7 +25,7 @@ use Rattle.script.specs.declared.Mode.the-variants.{Flash}
 use Rattle.script.specs.declared.Refusal.{Refusal}
 use Rattle.script.specs.declared.Refusal.the-variants as refusal
 use Rattle.script.proofs.Counts.{rowIs, row-is}
-use Rattle.totals.specs.Totals.{differs}
+use Rattle.totals.specs.Totals.{wouldPass, differs, isSpent}
 use Rattle.totals.specs.declared.Happening.{Happening}
 use Rattle.totals.specs.declared.Happening.the-variants as happened
 use Rattle.totals.specs.declared.Totals.{Totals}
@@ -33,13 +33,15 @@ use Rattle.commands.specs.Commands.{judgedNumber}
 use Rattle.commands.specs.declared.Done.{Done}
 use Rattle.commands.specs.declared.Judged.{Judged}
 use Rattle.commands.specs.declared.Sought.{Sought}
+use Rattle.commands.specs.Wrote.{noneWrote}
+use Rattle.commands.specs.declared.Wrote.{Wrote}
 use Rattle.flash.specs.Calls.{dataWords, happening, Fits, argumentWords, met, Reads, spares, Way, forward, back, kept, Call, EveryCall}
 use Rattle.flash.specs.Opening.{goodLength}
 use Rattle.flash.specs.Sessions.{Outcome, changed, countedOn, fetching, unchanged, stopped, accepted}
-use Rattle.flash.specs.Step.{present, wordsFrom, argument, after, overflowing, loadAt, loadJudgedAs, soughtAs, requested, named, closeWords, entered, performed, atRow, stepOf}
+use Rattle.flash.specs.Step.{present, wordsFrom, argument, after, overflowing, outOfNumbers, loadAt, loadJudgedAs, soughtAs, requested, named, closeWords, entered, performed, atRow, stepOf}
 use Rattle.flash.specs.declared.Called.{Called}
 use Rattle.flash.specs.declared.Session.{Session}
-use Rattle.flash.proofs.Verdicts.{Ending, ends, Judges, grants, denies, load-judges, fill-judges, setting-judges, entry-judges, barred-judges, test-failed, fill-number, close-number, Answers, accepts, rejects, fill-answers, setting-answers, close-answers, Leads, leads, astray, seek-leads}
+use Rattle.flash.proofs.Verdicts.{Ending, ends, Judges, grants, denies, load-judges, fill-judges, setting-judges, entry-judges, barred-judges, granted-first, test-failed, fill-number, setting-number, close-number, Answers, accepts, rejects, fill-answers, setting-answers, close-answers, Leads, leads, astray, seek-leads}
 
 -- words are there up to an offset
 there : (image : List ℕ) (at n : ℕ) → present image at n ≡ true → at + 4 * n ≤ length image
@@ -76,10 +78,10 @@ not-over q = last (eqb (numberOf q) 2 || eqb (numberOf q) 3) (eqb (numberOf q) 1
 
 module _ (s : Session) (image : List ℕ) where
   -- an answer with what a call may change of the session
-  answered : {q : Refusal} {told : Event} {at : ℕ} {over switch : Bool} {register offset retries fetched : ℕ} {totals : Totals}
-      → Way s image (record { refusal = q; event = told; at = at; session = changed s over switch register offset retries fetched totals })
+  answered : {q : Refusal} {told : Event} {at : ℕ} {over switch : Bool} {register offset retries fetched : ℕ} {totals : Totals} {wrote : Wrote}
+      → Way s image (record { refusal = q; event = told; at = at; session = changed s over switch register offset retries fetched totals; wrote = wrote })
       → eqb (numberOf q) 14 ≡ s .ended → at ≡ pick (spares q) 0 (s .offset)
-      → Call s image (record { refusal = q; event = told; at = at; session = changed s over switch register offset retries fetched totals })
+      → Call s image (record { refusal = q; event = told; at = at; session = changed s over switch register offset retries fetched totals; wrote = wrote })
   answered way over at =
       record { way = way; same-windows = refl; same-length = refl; same-limit = refl; same-dialect = refl; over = over; at = at }
 
@@ -134,10 +136,10 @@ module _ (s : Session) (image : List ℕ) where
         (not-over q (e .unspared) ∙ sym standing) (sym (passed _ _ _ (e .unspared)))
 
     -- accepted, past the words of the command
-    passes : {c : Command} {words : ℕ} {told : Event} {over switch : Bool} {register offset fetched : ℕ} → Reads s image c words
+    passes : {c : Command} {words : ℕ} {told : Event} {over switch : Bool} {register offset fetched : ℕ} {wrote : Wrote} → Reads s image c words
         → offset ≡ s .offset + 4 * words → fetched ≡ countedOn (s .fetched) words → Fits s (what c) → over ≡ eqb (kindOf told) 3
         → (kindOf told ≡ 3 → (c ≡ command.JumpAndClose) × (differs (s .dialect) (s .totals) (named s image) ≡ false))
-        → Call s image (accepted s (what c) told (changed s over switch register offset (s .retries) fetched (s .totals)))
+        → Call s image (accepted s (what c) wrote told (changed s over switch register offset (s .retries) fetched (s .totals)))
     passes {c} {words} reads past all fits ended entering =
         answered
         (forward
@@ -158,9 +160,9 @@ module _ (s : Session) (image : List ℕ) where
         (sym standing) (sym (passed _ _ _ refl))
 
     -- accepted with no event of entering, and going on
-    goes-on : {c : Command} {words : ℕ} {told : Event} {switch : Bool} {register offset fetched : ℕ} → kindOf told ≢ 3
+    goes-on : {c : Command} {words : ℕ} {told : Event} {switch : Bool} {register offset fetched : ℕ} {wrote : Wrote} → kindOf told ≢ 3
         → Reads s image c words → offset ≡ s .offset + 4 * words → fetched ≡ countedOn (s .fetched) words → Fits s (what c)
-        → Call s image (accepted s (what c) told (changed s (s .ended) switch register offset (s .retries) fetched (s .totals)))
+        → Call s image (accepted s (what c) wrote told (changed s (s .ended) switch register offset (s .retries) fetched (s .totals)))
     goes-on other reads past all fits = passes reads past all fits (standing ∙ sym (ne-eqb _ _ other)) (λ e. absurd (other e))
 
     -- a command whose opcode and argument words were met, and fetched
@@ -174,17 +176,17 @@ module _ (s : Session) (image : List ℕ) where
       denied q e = stops q e (ap (countedOn (s .fetched)) (sym whole))
 
       -- that was judged
-      after-call : {c : Command} {kind : ℕ} {done : Done} (words : ℕ) → words ≡ n → kind ≢ 3 → Answers kind done
-          → Reads s image c words → (numberOf (done .refusal) ≡ 0 → Fits s (what c)) → Call s image (after fetched (what c) done words)
+      after-call : {c : Command} {kind : ℕ} {done : Done} (wrote : Wrote) (words : ℕ) → words ≡ n → kind ≢ 3 → Answers kind done
+          → Reads s image c words → (numberOf (done .refusal) ≡ 0 → Fits s (what c)) → Call s image (after fetched (what c) wrote done words)
       unfolding after
-      after-call words all other (accepts e k) reads fits =
+      after-call wrote words all other (accepts e k) reads fits =
           subst (Call s image) (sym (chosen _ _ _ (eq-eqb _ _ e)))
           (goes-on (λ z. other (sym k ∙ z)) reads refl (ap (countedOn (s .fetched)) (sym all)) (fits e))
-      after-call words all other (rejects e) reads fits = subst (Call s image) (sym (passed _ _ _ (ne-eqb _ _ (e .refused)))) (denied _ e)
+      after-call wrote words all other (rejects e) reads fits = subst (Call s image) (sym (passed _ _ _ (ne-eqb _ _ (e .refused)))) (denied _ e)
 
       entered-call : {done : Done} (words : ℕ) → words ≡ n → Answers 3 done → Reads s image command.JumpAndClose words
           → (numberOf (done .refusal) ≡ 0 → differs (s .dialect) (s .totals) (named s image) ≡ false)
-          → Call s image (entered (after fetched happened.Other done words))
+          → Call s image (entered (after fetched happened.Other noneWrote done words))
       unfolding after
       entered-call words all (accepts e k) reads same =
           subst (λ (a : Called). Call s image (entered a)) (sym (chosen _ _ _ (eq-eqb _ _ e)))
@@ -238,21 +240,29 @@ module _ (s : Session) (image : List ℕ) where
 
       load-call : {arguments : ℕ} {j : Judged} → lookedUp (wordAt image (s .offset)) Flash (s .dialect) ≡ Known command.Load arguments
           → s .offset + 4 + 4 * arguments ≤ length image → arguments ≡ 2 → Judges j
-          → (judgedNumber j ≡ 0 → Fits s (what command.Load))
+          → (judgedNumber j ≡ 0 → wouldPass (s .dialect) (s .totals) (argument s image 1) ≡ false)
           → Answered
           (loadJudgedAs (fetching (1 + arguments) s) m image (argument (fetching (1 + arguments) s) image 0)
           (argument (fetching (1 + arguments) s) image 1) j)
       unfolding loadAt argument
       load-call {arguments} known here two grants fits =
           of-choice Answered _ (λ e. denied (1 + arguments) (whole known here) refusal.Missing (ends refusal.Missing refl))
-          (λ e. goes-on (λ z. omega arith)
+          (λ e. of-choice Answered _ (λ spent. denied (1 + arguments) (whole known here) refusal.Number (ends refusal.Number refl))
+          (λ unspent. goes-on (λ z. omega arith)
           (read known here (1 + arguments + dataWords command.Load s image) refl (omega (arith, there image _ _ (not-false _ e)))) (omega arith)
-          (counted-both (s .fetched) (1 + arguments) _) (fits refl))
+          (counted-both (s .fetched) (1 + arguments) _) (fits refl, unspent)))
       load-call {arguments} known here two (denies e) fits = denied (1 + arguments) (whole known here) _ e
 
-      -- 18 follows what judges a section, and 17 what judges an entry
+      -- 18 follows what judges a section, 25 what judges a command that is numbered, and 17 what judges an entry
       section-judges : {j : Judged} (size : ℕ) → Judges j → Judges (overflowing s size j)
       section-judges size judges = barred-judges _ (ends refusal.Overflow refl) judges
+
+      numbered-judges : {j : Judged} → Judges j → Judges (outOfNumbers s j)
+      numbered-judges judges = barred-judges _ (ends refusal.Number refl) judges
+
+      -- what 25 did not refuse was granted before it, and found a number
+      numbered-passed : {j : Judged} → Judges j → judgedNumber (outOfNumbers s j) ≡ 0 → (judgedNumber j ≡ 0) × (isSpent (s .totals) ≡ false)
+      numbered-passed judges e = (granted-first _ (ends refusal.Number refl) judges e, test-failed _ (ends refusal.Number refl) judges e)
 
       -- each command whose argument words are there
       performed-call : (c : Command) (arguments : ℕ) → rowIs Flash (s .dialect) c arguments ≡ true
@@ -265,12 +275,16 @@ module _ (s : Session) (image : List ℕ) where
       performed-call command.Fill n row known h =
           let four = eqb-true n 4 row in
           let judges = fill-judges (s .windows) _ _ _ in
-          after-call (1 + n) (whole known h) 5 (omega arith) (λ z. omega arith) (fill-answers (section-judges _ judges) _ _ _ _ _ _)
-          (read known h 5 (omega arith) (omega arith)) (λ e. test-failed _ (ends refusal.Overflow refl) judges (sym (fill-number _ _ _ _ _ _ _) ∙ e))
+          after-call (1 + n) (whole known h) _ 5 (omega arith) (λ z. omega arith) (fill-answers (numbered-judges (section-judges _ judges)) _ _ _ _ _ _)
+          (read known h 5 (omega arith) (omega arith))
+          (λ e.
+          let first = numbered-passed (section-judges _ judges) (sym (fill-number _ _ _ _ _ _ _) ∙ e) in
+          (test-failed _ (ends refusal.Overflow refl) judges (first .0), first .1))
       performed-call command.BootTable n row known h =
           let four = eqb-true n 4 row in
-          after-call (1 + n) (whole known h) 5 (omega arith) (λ z. omega arith) (setting-answers (setting-judges (s .windows) _ _ _) _ _)
-          (read known h 5 (omega arith) (omega arith)) (λ e. tt)
+          let judges = setting-judges (s .windows) _ _ _ in
+          after-call (1 + n) (whole known h) _ 5 (omega arith) (λ z. omega arith) (setting-answers (numbered-judges judges) _ _)
+          (read known h 5 (omega arith) (omega arith)) (λ e. numbered-passed judges (sym (setting-number _ _ _) ∙ e) .1)
       performed-call command.Enable n row known h =
           let none = eqb-true n 0 row in
           goes-on (λ z. omega arith) (read known h (1 + n) (omega arith) (omega arith)) (omega arith) refl tt

@@ -6,24 +6,22 @@ use mathlib.Core.Path.{_≡_, ap, _∙_}
 use lib.Dec.{eqb, leb}
 use lib.ListN.{length}
 use borrow.Author.Tests.{le-leb, lt-leb, eq-eqb, ne-eqb, leb-true, eqb-true}
-use Rattle.words.specs.Bytes.{bytesAt, wordAt}
-use Rattle.words.specs.Choice.{pick}
+use Rattle.words.specs.Bytes.{wordAt}
 use Rattle.words.proofs.Choice.{chosen, passed, both}
 use Rattle.windows.specs.Window.{sumOf}
 use Rattle.script.specs.Opcodes.{lookedUp}
 use Rattle.script.specs.declared.Command.{Command}
 use Rattle.script.specs.declared.Command.the-variants as command
-use Rattle.script.specs.declared.Event.the-variants.{Nothing}
 use Rattle.script.specs.declared.Found.{Found}
 use Rattle.script.specs.declared.Found.the-variants.{Known}
 use Rattle.script.specs.declared.Mode.the-variants.{Flash}
 use Rattle.script.specs.declared.Refusal.the-variants as refusal
-use Rattle.totals.specs.declared.Happening.the-variants as happening
-use Rattle.commands.specs.Commands.{multiple, loadJudged, loaded, loadFed, fillJudged, settingJudged}
+use Rattle.totals.specs.Totals.{isSpent}
+use Rattle.commands.specs.Commands.{multiple, loadJudged, fillJudged, settingJudged}
 use Rattle.commands.specs.declared.Judged.{Judged}
 use Rattle.flash.specs.Opening.{goodLength}
-use Rattle.flash.specs.Sessions.{_leaving_, goTo, fetching, unchanged, stopped, accepted}
-use Rattle.flash.specs.Step.{present, wordsFrom, argument, overflowing, loadAt, loadJudgedAs, fillJudgedAs, settingJudgedAs, performed, atRow, stepOf}
+use Rattle.flash.specs.Sessions.{_leaving_, fetching, unchanged, stopped}
+use Rattle.flash.specs.Step.{present, wordsFrom, argument, overflowing, outOfNumbers, loadDone, loadAt, loadJudgedAs, fillJudgedAs, settingJudgedAs, performed, atRow, stepOf}
 use Rattle.flash.specs.declared.Session.{Session}
 
 -- words that are there, and words that are not
@@ -50,20 +48,22 @@ unfolding goodLength multiple
 length-whole n e = eqb-true _ _ (both (eqb (n % 4) 0) (leb 4 n) (both (eqb (n % 4) 0 && leb 4 n) (leb n 65536) e .0) .0)
 
 module _ (s : Session) (m image : List ℕ) where
-  -- a load whose data are cut short, and one whose data are there
+  -- a load whose data are cut short
   pub load-short : (address size place : ℕ) → length image < s .offset + 12 + 4 * ((size + 3) / 4)
       → loadAt s m image address size place ≡ stopped refusal.Missing s leaving m
   unfolding loadAt
   load-short address size place h = chosen _ _ _ (lacking image (s .offset + 12) ((size + 3) / 4) h)
 
-  pub load-whole : (address size place : ℕ) → s .offset + 12 + 4 * ((size + 3) / 4) ≤ length image
-      → loadAt s m image address size place
-      ≡ accepted s (happening.Section size) Nothing
-      (goTo (fetching ((size + 3) / 4) s) (pick (s .on) (loadFed (s .register) address (bytesAt image (s .offset + 12) size)) (s .register))
-      (s .offset + 12 + 4 * ((size + 3) / 4)))
-      leaving loaded m place (bytesAt image (s .offset + 12) size)
+  -- no number for it, and one
+  pub load-spent : (address size place : ℕ) → s .offset + 12 + 4 * ((size + 3) / 4) ≤ length image → isSpent (s .totals) ≡ true
+      → loadAt s m image address size place ≡ stopped refusal.Number s leaving m
   unfolding loadAt
-  load-whole address size place h = passed _ _ _ (there image (s .offset + 12) ((size + 3) / 4) h)
+  load-spent address size place h spent = passed _ _ _ (there image (s .offset + 12) ((size + 3) / 4) h) ∙ chosen _ _ _ spent
+
+  pub load-whole : (address size place : ℕ) → s .offset + 12 + 4 * ((size + 3) / 4) ≤ length image → isSpent (s .totals) ≡ false
+      → loadAt s m image address size place ≡ loadDone s m image address size place
+  unfolding loadAt
+  load-whole address size place h unspent = passed _ _ _ (there image (s .offset + 12) ((size + 3) / 4) h) ∙ passed _ _ _ unspent
 
   -- the commands on their words, however these were read
   pub load-read : {address size : ℕ} {judged : Judged} → address ≡ argument s image 0 → size ≡ argument s image 1
@@ -73,13 +73,13 @@ module _ (s : Session) (m image : List ℕ) where
 
   pub fill-read : {address size kind pattern : ℕ} {judged : Judged} → address ≡ argument s image 0 → size ≡ argument s image 1
       → kind ≡ argument s image 2 → pattern ≡ argument s image 3
-      → judged ≡ overflowing s size (fillJudged (s .windows) address size kind)
+      → judged ≡ outOfNumbers s (overflowing s size (fillJudged (s .windows) address size kind))
       → fillJudgedAs s m address size kind pattern judged ≡ performed command.Fill s m image
   fill-read p q k v j = rw (j, p, q, k, v)
 
   pub setting-read : {word address value delay : ℕ} {judged : Judged} → word ≡ argument s image 0 → address ≡ argument s image 1
       → value ≡ argument s image 2 → delay ≡ argument s image 3
-      → judged ≡ settingJudged (s .windows) word address value
+      → judged ≡ outOfNumbers s (settingJudged (s .windows) word address value)
       → settingJudgedAs s m word value delay judged ≡ performed command.BootTable s m image
   setting-read p q k v j = rw (j, p, q, k, v)
 

@@ -1,6 +1,6 @@
 -- The totals since an opening, by the law of a call: a call that goes forward counts a load or a fill in whole numbers and nothing else, one that goes back
 -- counts a retry, and one that is refused keeps them. In AM17xx each part of the rules gives the same, whatever the totals are.
-use Prim.Native.Nat.{ℕ, _+_, _≤_}
+use Prim.Native.Nat.{ℕ, _+_, _*_, _≤_}
 use mathlib.Core.Bool.{Bool, true, false}
 use mathlib.Core.List.{List, [], _∷_}
 use mathlib.Core.Path.{_≡_, refl, sym, ap, ap₂, subst, _∙_}
@@ -21,7 +21,7 @@ use Rattle.script.specs.declared.Found.{Found}
 use Rattle.script.specs.declared.Found.the-variants.{Known, Retired, Unknown}
 use Rattle.script.specs.declared.Mode.the-variants.{Flash}
 use Rattle.totals.specs.Agreement.{plus}
-use Rattle.totals.specs.Totals.{atOpening, wouldPass, differs, inFlash}
+use Rattle.totals.specs.Totals.{atOpening, wouldPass, differs, following, numberedAs, inFlash}
 use Rattle.totals.specs.declared.Happening.{Happening}
 use Rattle.totals.specs.declared.Happening.the-variants as happened
 use Rattle.totals.specs.declared.Standing.{Standing}
@@ -33,10 +33,11 @@ use Rattle.commands.specs.declared.Judged.{Judged}
 use Rattle.commands.specs.declared.Judged.the-variants.{Granted, Refused}
 use Rattle.commands.specs.declared.Sought.{Sought}
 use Rattle.commands.specs.declared.Sought.the-variants as sought
+use Rattle.commands.specs.declared.Wrote.{Wrote}
 use Rattle.flash.specs.Calls.{happening, Fits, Way, forward, back, kept, Call}
 use Rattle.flash.specs.Opening.{openedBy}
 use Rattle.flash.specs.Reached.{Reached, opened, called}
-use Rattle.flash.specs.Sessions.{Outcome, withTotals, fetching}
+use Rattle.flash.specs.Sessions.{Outcome, goTo, withTotals, fetching, accepted}
 use Rattle.flash.specs.Step.{argument, after, overflowing, loadAt, loadJudgedAs, soughtAs, requested, named, entered, performed, atRow, stepOf}
 use Rattle.flash.specs.Totals.{Lent, answerTo, afterCalls, sizesIn, sizesFound, acceptedIn, sizesAccepted, CountsAccepted, EntersOnTotals, untold, Am17xxHasNone}
 use Rattle.flash.specs.declared.Called.{Called}
@@ -54,8 +55,8 @@ module _ (s : Session) (size : ℕ) (dialect : s .dialect ≡ Dm648) where
   section-stands fits = plus-one (s .dialect) (s .totals) size dialect fits
 
   command-stands : (c : Command) → Stands c
-  command-stands command.Load fits = section-stands fits
-  command-stands command.Fill fits = section-stands fits
+  command-stands command.Load fits = section-stands (fits .0)
+  command-stands command.Fill fits = section-stands (fits .0)
   command-stands command.BootTable fits = plus-none (s .totals .now)
   command-stands command.Enable fits = plus-none (s .totals .now)
   command-stands command.Disable fits = plus-none (s .totals .now)
@@ -129,7 +130,9 @@ enters-on-totals s m image dialect enters = go (every-call s m image .way)
 
 -- what happens in AM17xx leaves totals of 0 as they are
 zero-stays : (h : Happening) → inFlash Am17xx atOpening h ≡ atOpening
+unfolding pick following
 zero-stays (happened.Section size) = refl
+zero-stays happened.Setting = refl
 zero-stays happened.Enable = refl
 zero-stays happened.Passed = refl
 zero-stays happened.Retried = refl
@@ -202,17 +205,36 @@ answer-choice false first second = second
 entered-alike : {a b : Called} → AnswerAlike a b → AnswerAlike (entered a) (entered b)
 entered-alike same = record { told = ap (λ (a : Called). untold (entered a)) (same .told) }
 
-module _ (m image : List ℕ) (t u : Totals) where
+module _ (m image : List ℕ) (first second numbers : Totals) where
+  abbrev t : Totals
+  t = numberedAs first numbers
+
+  abbrev u : Totals
+  u = numberedAs second numbers
+
+  -- what happens gives the same numbers
+  happens-alike : (h : Happening) → numberedAs atOpening (inFlash Am17xx t h) ≡ numberedAs atOpening (inFlash Am17xx u h)
+  happens-alike (happened.Section size) = refl
+  happens-alike happened.Setting = refl
+  happens-alike happened.Enable = refl
+  happens-alike happened.Passed = refl
+  happens-alike happened.Retried = refl
+  happens-alike happened.Other = refl
+
   module _ (s : Session) where
-    after-alike : (h : Happening) (done : Done) (n : ℕ) → AnswerAlike (after (withNone s t) h done n) (after (withNone s u) h done n)
+    after-alike : (h : Happening) (wrote : Wrote) (done : Done) (n : ℕ) → AnswerAlike (after (withNone s t) h wrote done n) (after (withNone s u) h wrote done n)
     unfolding after
-    after-alike h done n = answer-choice _ (record { told = refl }) (record { told = refl })
+    after-alike h wrote done n =
+        answer-choice _
+        (record { told = ap (λ (v : Totals). untold (accepted (withNone s v) happened.Other wrote (done .event) (goTo (withNone s v) (done .register) (s .offset + 4 * n)))) (happens-alike h) })
+        (record { told = refl })
 
     load-alike : (address size : ℕ) (judged : Judged)
         → Alike (loadJudgedAs (withNone s t) m image address size judged) (loadJudgedAs (withNone s u) m image address size judged)
     unfolding loadAt
     load-alike address size (Granted place) =
-        alike-choice _ (record { answer = record { told = refl }; memory = refl }) (record { answer = record { told = refl }; memory = refl })
+        alike-choice _ (record { answer = record { told = refl }; memory = refl })
+        (alike-choice _ (record { answer = record { told = refl }; memory = refl }) (record { answer = record { told = refl }; memory = refl }))
     load-alike address size (Refused q) = record { answer = record { told = refl }; memory = refl }
 
     sought-alike : (led : Sought) → AnswerAlike (soughtAs (withNone s t) led) (soughtAs (withNone s u) led)
@@ -228,13 +250,13 @@ module _ (m image : List ℕ) (t u : Totals) where
     performed-alike command.Load =
         load-alike (argument s image 0) (argument s image 1)
         (overflowing (withNone s t) (argument s image 1) (loadJudged (s .windows) (argument s image 0) (argument s image 1)))
-    performed-alike command.Fill = record { answer = after-alike _ _ _; memory = refl }
-    performed-alike command.BootTable = record { answer = after-alike _ _ _; memory = refl }
+    performed-alike command.Fill = record { answer = after-alike _ _ _ _; memory = refl }
+    performed-alike command.BootTable = record { answer = after-alike _ _ _ _; memory = refl }
     performed-alike command.Enable = record { answer = record { told = refl }; memory = refl }
     performed-alike command.Disable = record { answer = record { told = refl }; memory = refl }
     performed-alike command.Request = record { answer = request-alike _ _; memory = refl }
     performed-alike command.StartOver = record { answer = record { told = refl }; memory = refl }
-    performed-alike command.JumpAndClose = record { answer = entered-alike (after-alike _ _ _); memory = refl }
+    performed-alike command.JumpAndClose = record { answer = entered-alike (after-alike _ _ _ _); memory = refl }
     performed-alike command.Ping = record { answer = record { told = refl }; memory = refl }
     performed-alike command.SequentialRead = record { answer = record { told = refl }; memory = refl }
 
@@ -257,9 +279,10 @@ am17xx-has-none =
     record {
       zero = λ s reached e. reached-zero reached e;
       unseen = λ s t m image e.
-          let same = step-alike m image t (s .totals) s in
+          let same = step-alike m image t (s .totals) (s .totals) s in
+          let other-totals : Totals = numberedAs t (s .totals) in
           let there : withNone s (s .totals) ≡ s = ap (inDialect s) (sym e) in
-          let other : withNone s t ≡ withTotals s t = ap (inDialect (withTotals s t)) (sym e) in (
+          let other : withNone s other-totals ≡ withTotals s other-totals = ap (inDialect (withTotals s other-totals)) (sym e) in (
             ap (λ (x : Session). untold (stepOf x m image .answer)) (sym other) ∙ same .answer .told
                 ∙ ap (λ (x : Session). untold (stepOf x m image .answer)) there,
             ap (λ (x : Session). stepOf x m image .memory) (sym other) ∙ same .memory ∙ ap (λ (x : Session). stepOf x m image .memory) there,

@@ -79,6 +79,11 @@ test-failed true ending grants e = absurd (ending .refused e)
 test-failed false ending grants e = refl
 test-failed test ending (denies wrong) e = absurd (wrong .refused e)
 
+-- and was granted before it
+pub granted-first : (test : Bool) {q : Refusal} {j : Judged} → Ending q → Judges j → judgedNumber (barred test q j) ≡ 0 → judgedNumber j ≡ 0
+granted-first test ending grants e = refl
+granted-first test ending (denies wrong) e = e
+
 -- the number of an answer is the judgement's
 done-number : (j : Judged) (register fed : ℕ) (told : Event) → numberOf (doneIf j register told fed .refusal) ≡ judgedNumber j
 done-number (Granted place) register fed told = refl
@@ -88,6 +93,10 @@ pub fill-number : (j : Judged) (on : Bool) (register address size kind pattern :
     → numberOf (fillDone j on register address size kind pattern .refusal) ≡ judgedNumber j
 unfolding fillDone
 fill-number j on register address size kind pattern = done-number j _ _ _
+
+pub setting-number : (j : Judged) (register delay : ℕ) → numberOf (settingDone j register delay .refusal) ≡ judgedNumber j
+unfolding settingDone
+setting-number j register delay = done-number j _ _ _
 
 pub close-number : (j : Judged) (register address : ℕ) → numberOf (closeDone j register address .refusal) ≡ judgedNumber j
 unfolding closeDone

@@ -18,7 +18,7 @@ use Rattle.script.specs.declared.Found.the-variants.{Known, Retired, Unknown}
 use Rattle.script.specs.declared.Mode.the-variants.{Flash}
 use Rattle.script.specs.declared.Refusal.{Refusal}
 use Rattle.script.specs.declared.Refusal.the-variants.{None}
-use Rattle.totals.specs.Totals.{wouldPass, differs, inFlash}
+use Rattle.totals.specs.Totals.{wouldPass, differs, isSpent, inFlash}
 use Rattle.totals.specs.declared.Happening.{Happening}
 use Rattle.totals.specs.declared.Happening.the-variants as happened
 use Rattle.flash.specs.Sessions.{countedOn}
@@ -53,7 +53,7 @@ argumentWords (Known command words) = words
 abbrev pub happening : Command → ℕ → Happening
 happening Load size = happened.Section size
 happening Fill size = happened.Section size
-happening BootTable size = happened.Other
+happening BootTable size = happened.Setting
 happening Enable size = happened.Enable
 happening Disable size = happened.Other
 happening Request size = happened.Passed
@@ -62,9 +62,10 @@ happening JumpAndClose size = happened.Other
 happening Ping size = happened.Other
 happening SequentialRead size = happened.Other
 
--- a section takes no total past the largest
+-- a section takes no total past the largest, and what is numbered finds a number
 abbrev pub Fits : Session → Happening → Type 0
-Fits s (happened.Section size) = wouldPass (s .dialect) (s .totals) size ≡ false
+Fits s (happened.Section size) = (wouldPass (s .dialect) (s .totals) size ≡ false) × (isSpent (s .totals) ≡ false)
+Fits s happened.Setting = isSpent (s .totals) ≡ false
 Fits s happened.Enable = Unit {0}
 Fits s happened.Passed = Unit {0}
 Fits s happened.Retried = Unit {0}
@@ -83,8 +84,8 @@ pub record Reads (s : Session) (image : List ℕ) (command : Command) (words : �
   pub present : s .offset + 4 * words ≤ length image
   pub lent : length image ≡ s .length
 
--- accepted: forward by exactly these words, all of them fetched, the retries kept, the totals told by what the command is to them, none past the largest; the
--- session ends exactly where it enters, which Jump & Close alone does, having named the totals
+-- accepted: forward by exactly these words, all of them fetched, the retries kept, the totals told by what the command is to them, none past the largest and no number
+-- spent; the session ends exactly where it enters, which Jump & Close alone does, having named the totals
 pub record Forward (s : Session) (image : List ℕ) (a : Called) : Type 0 where
   pub command : Command
   pub words : ℕ

@@ -8,12 +8,14 @@ use Rattle.words.specs.Bytes.{wordAt}
 use Rattle.words.specs.Choice.{pick}
 use Rattle.windows.specs.Map.{goodMap, keptOf, zeroWindow}
 use Rattle.windows.specs.declared.Window.{Window}
+use Rattle.script.specs.Answers.{numberOf}
 use Rattle.script.specs.declared.Dialect.{Dialect}
 use Rattle.script.specs.declared.Dialect.the-variants.{Am17xx}
 use Rattle.script.specs.declared.Refusal.{Refusal}
 use Rattle.script.specs.declared.Refusal.the-variants.{None, Map, Image, Magic}
-use Rattle.totals.specs.Totals.{atOpening}
+use Rattle.totals.specs.Totals.{atOpening, fromOne}
 use Rattle.commands.specs.Commands.{multiple}
+use Rattle.flash.specs.Sessions.{withTotals}
 use Rattle.flash.specs.declared.Opened.{Opened}
 
 -- the longest image, in bytes
@@ -75,3 +77,10 @@ openedBy dialect count windows image limit =
     (pick (not (goodLength (length image))) (refusedBy Image 0)
     (pick (not (eqb (wordAt image 0) magic)) (refusedBy Magic 1)
     (begun dialect (keptOf count windows) (length image) limit)))
+
+-- an opening whose session numbers its commands, from 1; a refused one is as it was
+unfoldable pub numberingFrom : Opened → Opened
+numberingFrom o =
+    pick (eqb (numberOf (o .refusal)) 0)
+    (record { refusal = o .refusal; session = withTotals (o .session) (fromOne (o .session .totals)) })
+    o

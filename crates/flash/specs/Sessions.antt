@@ -9,6 +9,8 @@ use Rattle.script.specs.declared.Refusal.the-variants.{None}
 use Rattle.totals.specs.Totals.{inFlash}
 use Rattle.totals.specs.declared.Happening.{Happening}
 use Rattle.totals.specs.declared.Totals.{Totals}
+use Rattle.commands.specs.Wrote.{noneWrote}
+use Rattle.commands.specs.declared.Wrote.{Wrote}
 use Rattle.flash.specs.declared.Called.{Called}
 use Rattle.flash.specs.declared.Session.{Session}
 
@@ -63,16 +65,16 @@ fetching n s = changed s (s .ended) (s .on) (s .register) (s .offset) (s .retrie
 
 -- refused, the session unchanged; no offset is reported
 abbrev pub unchanged : Refusal → Session → Called
-unchanged q s = record { refusal = q; event = Nothing; at = 0; session = s }
+unchanged q s = record { refusal = q; event = Nothing; at = 0; session = s; wrote = noneWrote }
 
 -- refused at the opcode: the session is ended, nothing else of it changes
 abbrev pub stopped : Refusal → Session → Called
-stopped q s = record { refusal = q; event = Nothing; at = s .offset; session = stop s }
+stopped q s = record { refusal = q; event = Nothing; at = s .offset; session = stop s; wrote = noneWrote }
 
--- accepted, with what happened and an event: the session s goes on as t, its totals turned
-abbrev pub accepted : Session → Happening → Event → Session → Called
-accepted s happened told t =
-    record { refusal = None; event = told; at = s .offset; session = withTotals t (inFlash (s .dialect) (s .totals) happened) }
+-- accepted, with what happened, what was written and an event: the session s goes on as t, its totals turned
+abbrev pub accepted : Session → Happening → Wrote → Event → Session → Called
+accepted s happened wrote told t =
+    record { refusal = None; event = told; at = s .offset; session = withTotals t (inFlash (s .dialect) (s .totals) happened); wrote = wrote }
 
 -- what a call gives: its answer and the memory that it leaves
 pub record Outcome : Type 0 where

@@ -18,16 +18,18 @@ use Rattle.script.specs.declared.Found.{Found}
 use Rattle.script.specs.declared.Found.the-variants.{Known, Retired, Unknown}
 use Rattle.script.specs.declared.Mode.the-variants.{Flash}
 use Rattle.script.specs.declared.Refusal.the-variants as refusal
-use Rattle.totals.specs.Totals.{standing, wouldPass, differs}
+use Rattle.totals.specs.Totals.{standing, wouldPass, differs, isSpent}
 use Rattle.totals.specs.declared.Happening.{Happening}
 use Rattle.totals.specs.declared.Happening.the-variants as happening
 use Rattle.totals.specs.declared.Standing.{Standing}
 use Rattle.commands.specs.Commands.{barred, loadJudged, loaded, loadFed, fillJudged, fillDone, fillMemory, settingJudged, settingDone, settingMemory, entryJudged, closeDone, soughtFrom}
+use Rattle.commands.specs.Wrote.{noneWrote, bytesWrote, settingWrote}
 use Rattle.commands.specs.declared.Done.{Done}
 use Rattle.commands.specs.declared.Judged.{Judged}
 use Rattle.commands.specs.declared.Judged.the-variants.{Granted, Refused}
 use Rattle.commands.specs.declared.Sought.{Sought}
 use Rattle.commands.specs.declared.Sought.the-variants as sought
+use Rattle.commands.specs.declared.Wrote.{Wrote}
 use Rattle.flash.specs.Opening.{goodLength}
 use Rattle.flash.specs.Sessions.{Outcome, _leaving_, stop, goTo, goBack, switchOn, switchOff, fetching, unchanged, stopped, accepted}
 use Rattle.flash.specs.declared.Called.{Called}
@@ -46,49 +48,65 @@ unfoldable pub argument : Session → List ℕ → ℕ → ℕ
 argument s image i = wordAt image (s .offset + 4 + 4 * i)
 
 -- a command of n words that was judged and done: refused it ends the session, accepted it goes on past its words, and this has happened
-unfoldable pub after : Session → Happening → Done → ℕ → Called
-after s happened done n =
+unfoldable pub after : Session → Happening → Wrote → Done → ℕ → Called
+after s happened wrote done n =
     pick (eqb (numberOf (done .refusal)) 0)
-    (accepted s happened (done .event) (goTo s (done .register) (s .offset + 4 * n)))
+    (accepted s happened wrote (done .event) (goTo s (done .register) (s .offset + 4 * n)))
     (stopped (done .refusal) s)
 
 -- 18, of a load or a fill of so many bytes that was judged
 abbrev pub overflowing : Session → ℕ → Judged → Judged
 overflowing s size judged = barred (wouldPass (s .dialect) (s .totals) size) refusal.Overflow judged
 
--- a load granted at a place: 5 for its data, else they are fetched, copied and fed, and counted
+-- 25, of a command that was judged
+abbrev pub outOfNumbers : Session → Judged → Judged
+outOfNumbers s judged = barred (isSpent (s .totals)) refusal.Number judged
+
+-- the answer to a load that is accepted at a place, with the register that its data leave: they are fetched
+abbrev pub loadAnswer : Session → ℕ → ℕ → ℕ → Called
+loadAnswer s register size place =
+    accepted s (happening.Section size) (bytesWrote (Granted place) size (s .totals .next)) Nothing
+    (goTo (fetching ((size + 3) / 4) s) register (s .offset + 12 + 4 * ((size + 3) / 4)))
+
+-- such a load: its data are copied and fed
+abbrev pub loadDone : Session → List ℕ → List ℕ → ℕ → ℕ → ℕ → Outcome
+loadDone s m image address size place =
+    loadAnswer s (pick (s .on) (loadFed (s .register) address (bytesAt image (s .offset + 12) size)) (s .register)) size place
+    leaving loaded m place (bytesAt image (s .offset + 12) size)
+
+-- a load granted at a place: 5 for its data, then 25
 unfoldable pub loadAt : Session → List ℕ → List ℕ → ℕ → ℕ → ℕ → Outcome
 loadAt s m image address size place =
     pick (not (present image (s .offset + 12) ((size + 3) / 4))) (stopped refusal.Missing s leaving m)
-    (accepted s (happening.Section size) Nothing
-    (goTo (fetching ((size + 3) / 4) s) (pick (s .on) (loadFed (s .register) address (bytesAt image (s .offset + 12) size)) (s .register))
-    (s .offset + 12 + 4 * ((size + 3) / 4)))
-    leaving loaded m place (bytesAt image (s .offset + 12) size))
+    (pick (isSpent (s .totals)) (stopped refusal.Number s leaving m)
+    (loadDone s m image address size place))
 
 -- a load by its judgement: 7, 18
 abbrev pub loadJudgedAs : Session → List ℕ → List ℕ → ℕ → ℕ → Judged → Outcome
 loadJudgedAs s m image address size (Granted place) = loadAt s m image address size place
 loadJudgedAs s m image address size (Refused q) = stopped q s leaving m
 
--- a fill by its judgement: .., 7, 18; accepted it is counted
+-- a fill by its judgement: .., 7, 18, 25
 abbrev pub fillJudgedAs : Session → List ℕ → ℕ → ℕ → ℕ → ℕ → Judged → Outcome
 fillJudgedAs s m address size kind pattern judged =
-    after s (happening.Section size) (fillDone judged (s .on) (s .register) address size kind pattern) 5 leaving fillMemory judged m size kind pattern
+    after s (happening.Section size) (bytesWrote judged size (s .totals .next)) (fillDone judged (s .on) (s .register) address size kind pattern) 5
+    leaving fillMemory judged m size kind pattern
 
--- a setting by its judgement; it is not counted
+-- a setting by its judgement: .., 7, 25; it is numbered, and not counted
 abbrev pub settingJudgedAs : Session → List ℕ → ℕ → ℕ → ℕ → Judged → Outcome
 settingJudgedAs s m word value delay judged =
-    after s happening.Other (settingDone judged (s .register) delay) 5 leaving settingMemory judged m word value
+    after s happening.Setting (settingWrote judged word (s .totals .next)) (settingDone judged (s .register) delay) 5
+    leaving settingMemory judged m word value
 
 -- a mismatch by where its seek leads: one retry is counted, or 12; the register becomes 0 either way
 abbrev pub soughtAs : Session → Sought → Called
-soughtAs s (sought.To offset) = accepted s happening.Retried Nothing (goBack s offset)
+soughtAs s (sought.To offset) = accepted s happening.Retried noneWrote Nothing (goBack s offset)
 soughtAs s (sought.Refused q) = stopped q (goTo s 0 (s .offset))
 
 -- Request: a match goes on; a mismatch with retries spent is 11; else the seek. The register becomes 0 in each case
 unfoldable pub requested : Session → ℕ → ℕ → Called
 requested s expected seek =
-    pick (eqb expected (s .register)) (accepted s happening.Passed Nothing (goTo s 0 (s .offset + 12)))
+    pick (eqb expected (s .register)) (accepted s happening.Passed noneWrote Nothing (goTo s 0 (s .offset + 12)))
     (pick (leb (s .limit) (s .retries)) (stopped refusal.Checksum (goTo s 0 (s .offset)))
     (soughtAs s (soughtFrom (s .offset) seek)))
 
@@ -103,13 +121,13 @@ closeWords Dm648 = 4
 
 -- entered, the session is ended
 abbrev pub entered : Called → Called
-entered a = record { refusal = a .refusal; event = a .event; at = a .at; session = stop (a .session) }
+entered a = record { refusal = a .refusal; event = a .event; at = a .at; session = stop (a .session); wrote = a .wrote }
 
 -- Jump & Close: 10, then 17 where the totals are not those that it names
 abbrev pub closed : Session → ℕ → Standing → Called
 closed s address totals =
     entered
-    (after s happening.Other
+    (after s happening.Other noneWrote
     (closeDone (barred (differs (s .dialect) (s .totals) totals) refusal.Totals (entryJudged (s .windows) address)) (s .register) address)
     (closeWords (s .dialect)))
 
@@ -120,17 +138,17 @@ performed command.Load s m image =
     (overflowing s (argument s image 1) (loadJudged (s .windows) (argument s image 0) (argument s image 1)))
 performed command.Fill s m image =
     fillJudgedAs s m (argument s image 0) (argument s image 1) (argument s image 2) (argument s image 3)
-    (overflowing s (argument s image 1) (fillJudged (s .windows) (argument s image 0) (argument s image 1) (argument s image 2)))
+    (outOfNumbers s (overflowing s (argument s image 1) (fillJudged (s .windows) (argument s image 0) (argument s image 1) (argument s image 2))))
 performed command.BootTable s m image =
     settingJudgedAs s m (argument s image 0) (argument s image 2) (argument s image 3)
-    (settingJudged (s .windows) (argument s image 0) (argument s image 1) (argument s image 2))
-performed command.Enable s m image = accepted s happening.Enable Nothing (switchOn s) leaving m
-performed command.Disable s m image = accepted s happening.Other Nothing (switchOff s) leaving m
+    (outOfNumbers s (settingJudged (s .windows) (argument s image 0) (argument s image 1) (argument s image 2)))
+performed command.Enable s m image = accepted s happening.Enable noneWrote Nothing (switchOn s) leaving m
+performed command.Disable s m image = accepted s happening.Other noneWrote Nothing (switchOff s) leaving m
 performed command.Request s m image = requested s (argument s image 0) (argument s image 1) leaving m
 performed command.StartOver s m image = stopped refusal.Opcode s leaving m
 performed command.JumpAndClose s m image = closed s (argument s image 0) (named s image) leaving m
 performed command.Ping s m image = stopped refusal.Opcode s leaving m
-performed command.SequentialRead s m image = accepted s happening.Other Nothing (goTo s (s .register) (s .offset + 4)) leaving m
+performed command.SequentialRead s m image = accepted s happening.Other noneWrote Nothing (goTo s (s .register) (s .offset + 4)) leaving m
 
 -- 6 or 15, then 5 for the arguments; the opcode is fetched, and the argument words that are there
 abbrev pub atRow : Session → List ℕ → List ℕ → Found → Outcome

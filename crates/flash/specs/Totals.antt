@@ -13,7 +13,7 @@ use Rattle.script.specs.declared.Found.{Found}
 use Rattle.script.specs.declared.Found.the-variants.{Known, Retired, Unknown}
 use Rattle.script.specs.declared.Mode.the-variants.{Flash}
 use Rattle.totals.specs.Agreement.{plus}
-use Rattle.totals.specs.Totals.{nothing, atOpening}
+use Rattle.totals.specs.Totals.{nothing, atOpening, numberedAs}
 use Rattle.totals.specs.declared.Happening.{Happening}
 use Rattle.totals.specs.declared.Happening.the-variants as happened
 use Rattle.totals.specs.declared.Totals.{Totals}
@@ -42,6 +42,7 @@ afterCalls s (lent ∷ rest) = afterCalls (answerTo s lent .session) rest
 -- the size of a load or a fill; nothing else has one
 abbrev pub sizesIn : Happening → List ℕ
 sizesIn (happened.Section size) = size ∷ []
+sizesIn happened.Setting = []
 sizesIn happened.Enable = []
 sizesIn happened.Passed = []
 sizesIn happened.Retried = []
@@ -77,14 +78,15 @@ abbrev pub EntersOnTotals : Type 0
 EntersOnTotals =
     (s : Session) (m image : List ℕ) → s .dialect ≡ Dm648 → kindOf (stepOf s m image .answer .event) ≡ 3 → named s image ≡ s .totals .now
 
--- an answer with the totals left out
+-- an answer with the totals left out, and not the numbers
 abbrev pub untold : Called → Called
-untold a = record { refusal = a .refusal; event = a .event; at = a .at; session = withTotals (a .session) atOpening }
+untold a =
+    record { refusal = a .refusal; event = a .event; at = a .at; session = withTotals (a .session) (numberedAs atOpening (a .session .totals)); wrote = a .wrote }
 
 pub record Am17xxHasNone : Type 0 where
   -- they stay 0
   pub zero : (s : Session) → Reached s → s .dialect ≡ Am17xx → s .totals ≡ atOpening
   -- whatever they were, no answer and no byte of memory would be another
   pub unseen : (s : Session) (t : Totals) (m image : List ℕ) → s .dialect ≡ Am17xx
-      → (untold (stepOf (withTotals s t) m image .answer) ≡ untold (stepOf s m image .answer))
-      × (stepOf (withTotals s t) m image .memory ≡ stepOf s m image .memory)
+      → (untold (stepOf (withTotals s (numberedAs t (s .totals))) m image .answer) ≡ untold (stepOf s m image .answer))
+      × (stepOf (withTotals s (numberedAs t (s .totals))) m image .memory ≡ stepOf s m image .memory)

@@ -5,12 +5,14 @@ ghost use Prim.Native.Nat.{_+_, _*_, _^_, _≤_, _<_};
 ghost use lib.Dec.{eqb};
 ghost use lib.ListN.{length};
 ghost use Rattle.commands.specs.Commands.{soughtFrom};
-ghost use Rattle.flash.specs.Opening.{goodLength, begun, refusedBy, openedBy};
+ghost use Rattle.commands.specs.Wrote.{noneWrote};
+ghost use Rattle.flash.specs.Opening.{goodLength, begun, refusedBy, openedBy, numberingFrom};
 ghost use Rattle.flash.specs.Sessions.{goTo, switchOn, switchOff, countedOn, fetching, unchanged, stopped, accepted};
-ghost use Rattle.flash.specs.Step.{argument, after, overflowing, loadAt, soughtAs, requested, named, closeWords, closed, performed, atRow, stepOf};
+ghost use Rattle.flash.specs.Step.{argument, after, overflowing, outOfNumbers, loadAnswer, loadAt, soughtAs, requested, named, closeWords, closed, performed, atRow, stepOf};
 use commands::Done;
 use commands::Judged;
 use commands::Sought;
+use commands::Wrote;
 use script::Command;
 use script::Dialect;
 use script::Event;
@@ -28,16 +30,16 @@ use windows::Window;
 // loaded.
 pub struct Session {
     pub windows: [Window; 8],
-    pub ended: bool,
-    pub on: bool,
     pub register: u32,
     pub offset: u32,
     pub length: u32,
+    pub fetched: u32,
+    pub totals: Totals,
+    pub ended: bool,
+    pub on: bool,
     pub limit: u8,
     pub retries: u8,
-    pub fetched: u32,
     pub dialect: Dialect,
-    pub totals: Totals,
 }
 
 pub struct Opened {
@@ -45,12 +47,13 @@ pub struct Opened {
     pub session: Session,
 }
 
-// The answer to a call: `at` is the offset of the opcode.
+// The answer to a call: `at` is the offset of the opcode, `wrote` the bits of memory that were written.
 pub struct Called {
     pub refusal: Refusal,
     pub event: Event,
     pub at: u32,
     pub session: Session,
+    pub wrote: Wrote,
 }
 
 impl Session {
@@ -87,6 +90,20 @@ impl Session {
         )
     }
 
+    // The same with its commands numbered from 1.
+    pub fn open_numbering(
+        dialect: Dialect,
+        count: usize,
+        windows: [Window; 8],
+        image: &[u8],
+        limit: u8,
+    ) -> Opened
+        ensures { λ r. ⌜ r ≡ numberingFrom (openedBy dialect count windows (now (image .entry)) limit) ⌝ }
+    {
+        let opened = Self::open(dialect, count, windows, image, limit);
+        number_from(opened)
+    }
+
     // One command.
     pub fn step(self, memory: &mut [u8], image: &[u8]) -> Called
         ensures { λ r. ⌜ r ≡ stepOf self (now (memory .entry)) (now (image .entry)) .answer ⌝ }
@@ -110,6 +127,25 @@ impl Session {
         let found = script::look_up(words::word_at(image, at), Mode::Flash, dialect);
         at_row(found, self, memory, image)
     }
+}
+
+// An opening that is not refused, its commands numbered from 1.
+fn number_from(opened: Opened) -> Opened
+    ensures { λ r. ⌜ r ≡ numberingFrom opened ⌝ }
+{
+    let refusal = opened.refusal;
+    if refusal.number() == 0 {
+        let session = opened.session;
+        let totals = session.totals;
+        let first = totals.from_one();
+        let mut numbering = session;
+        numbering.totals = first;
+        return Opened {
+            refusal,
+            session: numbering,
+        };
+    }
+    opened
 }
 
 // A session at its first command.
@@ -193,6 +229,7 @@ fn keep(refusal: Refusal, session: Session) -> Called
         event: Event::Nothing,
         at: 0,
         session,
+        wrote: commands::wrote_none(),
     }
 }
 
@@ -208,12 +245,19 @@ fn halt(refusal: Refusal, session: Session) -> Called
         event: Event::Nothing,
         at,
         session: over,
+        wrote: commands::wrote_none(),
     }
 }
 
 // Accepted, the session going on as `next`: what happened turns the totals, here and nowhere else.
-fn proceed(session: Session, happening: Happening, event: Event, next: Session) -> Called
-    ensures { λ r. ⌜ r ≡ accepted session happening event next ⌝ }
+fn proceed(
+    session: Session,
+    happening: Happening,
+    wrote: Wrote,
+    event: Event,
+    next: Session,
+) -> Called
+    ensures { λ r. ⌜ r ≡ accepted session happening wrote event next ⌝ }
 {
     let refusal = Refusal::None;
     let dialect = session.dialect;
@@ -226,6 +270,7 @@ fn proceed(session: Session, happening: Happening, event: Event, next: Session) 
         event,
         at: session.offset,
         session: gone,
+        wrote,
     }
 }
 
@@ -246,6 +291,14 @@ fn overflow(session: Session, size: u32, judged: Judged) -> Judged
     let dialect = session.dialect;
     let totals = session.totals;
     commands::bar(judged, totals.would_pass(dialect, size), Refusal::Overflow)
+}
+
+// 25, of a command that was judged.
+fn out_of_numbers(session: Session, judged: Judged) -> Judged
+    ensures { λ r. ⌜ r ≡ outOfNumbers session judged ⌝ }
+{
+    let totals = session.totals;
+    commands::bar(judged, totals.is_spent(), Refusal::Number)
 }
 
 // A count with so many words more; it stays at the largest number.
@@ -274,19 +327,38 @@ fn argument_word(session: Session, image: &[u8], i: u32) -> u32
     words::word_at(image, (session.offset as usize) + 4 + 4 * (i as usize))
 }
 
-// The answer to a command of so many words that was judged and done; accepted, this has happened.
-fn finish(session: Session, happening: Happening, done: Done, words: u32) -> Called
+// The answer to a command of so many words that was judged and done; accepted, this has happened and was written.
+fn finish(session: Session, happening: Happening, wrote: Wrote, done: Done, words: u32) -> Called
     requires { ⌜ session .offset + 4 * words < 2 ^ 32 ⌝ }
-    ensures { λ r. ⌜ r ≡ after session happening done words ⌝ }
+    ensures { λ r. ⌜ r ≡ after session happening wrote done words ⌝ }
 {
     let refusal = done.refusal;
     let event = done.event;
     if refusal.number() == 0 {
         let offset = session.offset + 4 * words;
         let next = moved(session, done.register, offset);
-        return proceed(session, happening, event, next);
+        return proceed(session, happening, wrote, event, next);
     }
     halt(refusal, session)
+}
+
+// The answer to a load that is accepted at a place, with the register that its data leave.
+fn load_answer(session: Session, register: u32, size: u32, place: usize) -> Called
+    requires { ⌜ (session .offset ≤ 65536) × (size ≤ 65536) ⌝ }
+    ensures { λ r. ⌜ r ≡ loadAnswer session register size place ⌝ }
+{
+    let words = (size + 3) / 4;
+    let offset = session.offset + 12 + 4 * words;
+    let totals = session.totals;
+    let wrote = commands::wrote_bytes(Judged::Granted(place), size, totals.next);
+    let past = moved(fetch(session, words), register, offset);
+    proceed(
+        session,
+        Happening::Section(size),
+        wrote,
+        Event::Nothing,
+        past,
+    )
 }
 
 // A load granted at a place.
@@ -308,6 +380,10 @@ fn load_at(
     if image.len() < end {
         return halt(Refusal::Missing, session);
     }
+    let totals = session.totals;
+    if totals.is_spent() {
+        return halt(Refusal::Number, session);
+    }
     let to = from + (size as usize);
     let register = commands::load(
         memory,
@@ -317,8 +393,7 @@ fn load_at(
         address,
         &image[from..to],
     );
-    let past = moved(fetch(session, words as u32), register, end as u32);
-    proceed(session, Happening::Section(size), Event::Nothing, past)
+    load_answer(session, register, size, place)
 }
 
 // Load.
@@ -350,7 +425,7 @@ fn fill(session: Session, memory: &mut [u8], image: &[u8]) -> Called
     let pattern = argument_word(session, image, 3);
     let windows = session.windows;
     let granted = commands::judge_fill(windows, address, size, kind);
-    let judged = overflow(session, size, granted);
+    let judged = out_of_numbers(session, overflow(session, size, granted));
     let done = commands::fill(
         memory,
         judged,
@@ -361,7 +436,9 @@ fn fill(session: Session, memory: &mut [u8], image: &[u8]) -> Called
         kind,
         pattern,
     );
-    finish(session, Happening::Section(size), done, 5)
+    let totals = session.totals;
+    let wrote = commands::wrote_bytes(judged, size, totals.next);
+    finish(session, Happening::Section(size), wrote, done, 5)
 }
 
 // Boot Table.
@@ -375,42 +452,44 @@ fn boot_table(session: Session, memory: &mut [u8], image: &[u8]) -> Called
     let value = argument_word(session, image, 2);
     let delay = argument_word(session, image, 3);
     let windows = session.windows;
-    let judged = commands::judge_setting(windows, word, address, value);
+    let granted = commands::judge_setting(windows, word, address, value);
+    let judged = out_of_numbers(session, granted);
     let done = commands::boot_table(memory, judged, session.register, word, value, delay);
-    finish(session, Happening::Other, done, 5)
+    let totals = session.totals;
+    let wrote = commands::wrote_setting(judged, word, totals.next);
+    finish(session, Happening::Setting, wrote, done, 5)
 }
 
 // Enable: the checksum on, its register 0.
 fn enable(session: Session) -> Called
     requires { ⌜ session .offset ≤ 65536 ⌝ }
-    ensures { λ r. ⌜ r ≡ accepted session Happening.Enable Event.Nothing (switchOn session) ⌝ }
+    ensures { λ r. ⌜ r ≡ accepted session Happening.Enable noneWrote Event.Nothing (switchOn session) ⌝ }
 {
     let mut next = moved(session, 0, session.offset + 4);
     next.on = true;
-    proceed(session, Happening::Enable, Event::Nothing, next)
+    let wrote = commands::wrote_none();
+    proceed(session, Happening::Enable, wrote, Event::Nothing, next)
 }
 
 // Disable: the checksum off, its register kept.
 fn disable(session: Session) -> Called
     requires { ⌜ session .offset ≤ 65536 ⌝ }
-    ensures { λ r. ⌜ r ≡ accepted session Happening.Other Event.Nothing (switchOff session) ⌝ }
+    ensures { λ r. ⌜ r ≡ accepted session Happening.Other noneWrote Event.Nothing (switchOff session) ⌝ }
 {
     let mut next = moved(session, session.register, session.offset + 4);
     next.on = false;
-    proceed(session, Happening::Other, Event::Nothing, next)
+    let wrote = commands::wrote_none();
+    proceed(session, Happening::Other, wrote, Event::Nothing, next)
 }
 
 // Sequential Read Enable: no effect.
 fn pass_over(session: Session) -> Called
     requires { ⌜ session .offset ≤ 65536 ⌝ }
-    ensures { λ r. ⌜ r ≡ accepted session Happening.Other Event.Nothing (goTo session (session .register) (session .offset + 4)) ⌝ }
+    ensures { λ r. ⌜ r ≡ accepted session Happening.Other noneWrote Event.Nothing (goTo session (session .register) (session .offset + 4)) ⌝ }
 {
-    proceed(
-        session,
-        Happening::Other,
-        Event::Nothing,
-        moved(session, session.register, session.offset + 4),
-    )
+    let wrote = commands::wrote_none();
+    let next = moved(session, session.register, session.offset + 4);
+    proceed(session, Happening::Other, wrote, Event::Nothing, next)
 }
 
 // A mismatch: the seek, and a retry.
@@ -423,7 +502,8 @@ fn retry(session: Session, seek: u32) -> Called
         Sought::To(offset) => {
             let mut next = moved(session, 0, offset);
             next.retries = session.retries + 1;
-            proceed(session, Happening::Retried, Event::Nothing, next)
+            let wrote = commands::wrote_none();
+            proceed(session, Happening::Retried, wrote, Event::Nothing, next)
         }
         Sought::Refused(refusal) => halt(refusal, moved(session, 0, session.offset)),
     }
@@ -436,7 +516,8 @@ fn request(session: Session, expected: u32, seek: u32) -> Called
 {
     if expected == session.register {
         let next = moved(session, 0, session.offset + 12);
-        return proceed(session, Happening::Passed, Event::Nothing, next);
+        let wrote = commands::wrote_none();
+        return proceed(session, Happening::Passed, wrote, Event::Nothing, next);
     }
     if session.limit <= session.retries {
         return halt(Refusal::Checksum, moved(session, 0, session.offset));
@@ -480,6 +561,7 @@ fn jump_and_close(session: Session, address: u32, named: Standing) -> Called
     let last = finish(
         session,
         Happening::Other,
+        commands::wrote_none(),
         commands::jump_and_close(judged, session.register, address),
         close_words(dialect),
     );
@@ -487,11 +569,13 @@ fn jump_and_close(session: Session, address: u32, named: Standing) -> Called
     over.ended = true;
     let refusal = last.refusal;
     let event = last.event;
+    let wrote = last.wrote;
     Called {
         refusal,
         event,
         at: last.at,
         session: over,
+        wrote,
     }
 }
 

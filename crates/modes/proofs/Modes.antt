@@ -21,25 +21,28 @@ use Rattle.script.specs.declared.Event.the-variants.{Nothing}
 use Rattle.script.specs.declared.Found.the-variants.{Known}
 use Rattle.script.specs.declared.Mode.the-variants.{Flash, Sent}
 use Rattle.script.specs.declared.Refusal.{Refusal}
-use Rattle.script.specs.declared.Refusal.the-variants.{None}
+use Rattle.script.specs.declared.Refusal.the-variants.{None, Number}
 use Rattle.script.proofs.Counts.{rowIs, row-is}
-use Rattle.totals.specs.Totals.{counted, marked, settled, inFlash}
+use Rattle.totals.specs.Totals.{counted, isSpent, numbered, marked, settled, inFlash}
 use Rattle.totals.specs.declared.Happening.{Happening}
 use Rattle.totals.specs.declared.Happening.the-variants as happened
 use Rattle.totals.specs.declared.Totals.{Totals}
 use Rattle.totals.proofs.Laws.{stays, settled-asks-nothing, settled-once, marked-settled, settled-asking, counted-keeps}
 use Rattle.commands.specs.Commands.{loadJudged, loaded, loadFed, soughtFrom}
+use Rattle.commands.specs.Wrote.{noneWrote}
 use Rattle.commands.specs.declared.Done.{Done}
 use Rattle.commands.specs.declared.Judged.{Judged}
 use Rattle.commands.specs.declared.Judged.the-variants.{Granted, Refused}
 use Rattle.commands.specs.declared.Sought.{Sought}
 use Rattle.commands.specs.declared.Sought.the-variants as sought
+use Rattle.commands.specs.declared.Wrote.{Wrote}
+use Rattle.commands.proofs.Judging.{unbarred, bars}
 use Rattle.flash.specs.Sessions as flash
 use Rattle.flash.specs.Step as step
 use Rattle.flash.specs.Step.{argument, stepOf}
 use Rattle.flash.specs.declared.Called.{Called}
 use Rattle.flash.specs.declared.Session.{Session}
-use Rattle.flash.proofs.Cases.{load-whole, load-read, row-whole, call-row}
+use Rattle.flash.proofs.Cases.{load-spent, load-whole, load-read, row-whole, call-row}
 use Rattle.sent.specs.Machine as machine
 use Rattle.sent.specs.Machine.{noneKept, acknowledging, begun, wordStep}
 use Rattle.sent.specs.Replies.{silence, farewell}
@@ -48,7 +51,7 @@ use Rattle.sent.specs.declared.Core.{Core}
 use Rattle.sent.specs.declared.Phase.the-variants.{Opcode}
 use Rattle.sent.specs.declared.Taken.{Taken}
 use Rattle.sent.proofs.ByTheTable.{after-append, by-the-table}
-use Rattle.sent.proofs.Laws.{load-in-pieces}
+use Rattle.sent.proofs.Laws.{unwritten, load-in-pieces}
 use Rattle.modes.specs.Modes.{Alike, Same, wordsAt, Before, sentWith, SameLoad, requestSent, RequestByMode, RowsOf, BothModes, SharedRows}
 use Rattle.modes.proofs.ImageWords.{data-bytes, words-length}
 
@@ -90,9 +93,20 @@ argument-at : (s : Session) (image : List ℕ) (i at : ℕ) → at ≡ s .offset
 unfolding argument
 argument-at s image i at e = ap (wordAt image) e
 
--- what settled totals count stays settled
-counted-settled : (dialect : Dialect) (t : Totals) (size : ℕ) → counted dialect (settled t) size ≡ settled (counted dialect (settled t) size)
+-- what settled totals count and number stays settled
+counted-settled : (dialect : Dialect) (t : Totals) (size : ℕ) → numbered (counted dialect (settled t) size) ≡ settled (numbered (counted dialect (settled t) size))
 counted-settled dialect t size = sym (stays _ (counted-keeps dialect (settled t) size .1 ∙ settled-asks-nothing t))
+
+numbered-settled : (t : Totals) → numbered (settled t) ≡ settled (numbered (settled t))
+numbered-settled t = sym (stays _ (settled-asks-nothing t))
+
+-- what was written is no part of it
+written-same : (wrote : Wrote) {a : Called} {b : Taken} {m n : List ℕ} → Same (flash._leaving_ a m) (machine._leaving_ b n)
+    → Same (flash._leaving_ a m) (machine._leaving_ (machine.writing wrote b) n)
+written-same wrote same = record { refusal = same .refusal; event = same .event; memory = same .memory; alike = same .alike }
+
+unwritten-same : {o : flash.Outcome} (p : machine.Outcome) → Same o (unwritten p) → Same o p
+unwritten-same p same = record { refusal = same .refusal; event = same .event; memory = same .memory; alike = same .alike }
 
 -- and so does a mark
 marked-stays : (t : Totals) → marked (settled t) ≡ settled (marked t)
@@ -108,16 +122,16 @@ module _ (k : Core) (totals : Totals) (same : totals ≡ settled (k .tally .tota
   s = like k totals offset size limit retries fetched
 
   -- a command that was judged and done
-  done-same : (done : Done) (n : ℕ) (memory : List ℕ)
-      → Same (flash._leaving_ (step.after s h done n) memory) (machine._leaving_ (machine.after k left done) memory)
+  done-same : (wrote : Wrote) (done : Done) (n : ℕ) (memory : List ℕ)
+      → Same (flash._leaving_ (step.after s h wrote done n) memory) (machine._leaving_ (machine.after k left done) memory)
   unfolding step.after machine.after pick
-  done-same done n memory = go (eqb (numberOf (done .refusal)) 0)
+  done-same wrote done n memory = go (eqb (numberOf (done .refusal)) 0)
     where
       go : (t : Bool) → Same
           (flash._leaving_
-          (pick t (flash.accepted s h (done .event) (flash.goTo s (done .register) (offset + 4 * n))) (flash.stopped (done .refusal) s)) memory)
+          (pick t (flash.accepted s h wrote (done .event) (flash.goTo s (done .register) (offset + 4 * n))) (flash.stopped (done .refusal) s)) memory)
           (machine._leaving_
-          (pick t (record { refusal = None; reply = silence; event = done .event; core = machine.await k (machine.tallied (done .register) left) Opcode })
+          (pick t (record { refusal = None; reply = silence; event = done .event; core = machine.await k (machine.tallied (done .register) left) Opcode; wrote = noneWrote })
           (machine.refused k (done .refusal))) memory)
       go true =
           record {
@@ -137,7 +151,7 @@ module _ (k : Core) (totals : Totals) (same : totals ≡ settled (k .tally .tota
   -- a refused close, whichever way its end is told
   refused-same : (q : Refusal) (memory : List ℕ) (t : Bool) → Same (flash._leaving_ (step.entered (flash.stopped q s)) memory)
       (machine._leaving_
-      (pick t (record { refusal = q; reply = farewell (k .dialect); event = Nothing; core = machine.stop (machine.stop k) }) (machine.refused k q)) memory)
+      (pick t (record { refusal = q; reply = farewell (k .dialect); event = Nothing; core = machine.stop (machine.stop k); wrote = noneWrote }) (machine.refused k q)) memory)
   refused-same q memory t =
       of-choice (λ (x : Taken). Same (flash._leaving_ (step.entered (flash.stopped q s)) memory) (machine._leaving_ x memory)) t
       (λ e. record {
@@ -154,19 +168,19 @@ module _ (k : Core) (totals : Totals) (same : totals ≡ settled (k .tally .tota
       })
 
   -- a close that was judged and done
-  close-done-same : (done : Done) (n : ℕ) (memory : List ℕ)
-      → Same (flash._leaving_ (step.entered (step.after s h done n)) memory) (machine._leaving_ (machine.entered (machine.after k left done)) memory)
+  close-done-same : (wrote : Wrote) (done : Done) (n : ℕ) (memory : List ℕ)
+      → Same (flash._leaving_ (step.entered (step.after s h wrote done n)) memory) (machine._leaving_ (machine.entered (machine.after k left done)) memory)
   unfolding step.after machine.after machine.entered pick
-  close-done-same done n memory = go (eqb (numberOf (done .refusal)) 0)
+  close-done-same wrote done n memory = go (eqb (numberOf (done .refusal)) 0)
     where
       go : (t : Bool) → Same
           (flash._leaving_
           (step.entered
-          (pick t (flash.accepted s h (done .event) (flash.goTo s (done .register) (offset + 4 * n))) (flash.stopped (done .refusal) s)))
+          (pick t (flash.accepted s h wrote (done .event) (flash.goTo s (done .register) (offset + 4 * n))) (flash.stopped (done .refusal) s)))
           memory)
           (machine._leaving_
           (machine.entered
-          (pick t (record { refusal = None; reply = silence; event = done .event; core = machine.await k (machine.tallied (done .register) left) Opcode })
+          (pick t (record { refusal = None; reply = silence; event = done .event; core = machine.await k (machine.tallied (done .register) left) Opcode; wrote = noneWrote })
           (machine.refused k (done .refusal))))
           memory)
       go true =
@@ -196,16 +210,18 @@ module _ (k : Core) (offset size limit retries fetched : ℕ) (m image : List �
   unfolding doneAtLast
   fill-same a b c d p q r t =
       rw (p, q, r, t)
-      (done-same (asking (begun command.Fill k) command.Fill 1 _) (settled (k .tally .totals)) once (happened.Section (argument session image 1)) (counted-settled (k .dialect) (k .tally .totals) _)
-      offset size limit
-      retries fetched _ 5 _)
+      (written-same _
+      (done-same (asking (begun command.Fill k) command.Fill 1 _) (settled (k .tally .totals)) once (happened.Section (argument session image 1))
+      (counted-settled (k .dialect) (k .tally .totals) _) offset size limit retries fetched _ _ 5 _))
 
   setting-same : (a b c d : ℕ) → a ≡ argument session image 0 → b ≡ argument session image 1 → c ≡ argument session image 2 → d ≡ argument session image 3
       → Same (step.performed command.BootTable session m image) (doneWith opcode command.BootTable (begun command.BootTable k) m (a ∷ b ∷ c ∷ d ∷ []))
   unfolding doneAtLast
   setting-same a b c d p q r t =
       rw (p, q, r, t)
-      (done-same (asking (begun command.BootTable k) command.BootTable 1 _) (settled (k .tally .totals)) once happened.Other once offset size limit retries fetched _ 5 _)
+      (written-same _
+      (done-same (asking (begun command.BootTable k) command.BootTable 1 _) (settled (k .tally .totals)) once happened.Setting (numbered-settled (k .tally .totals))
+      offset size limit retries fetched _ _ 5 _))
 
   -- where the words stand in the image
   places : (i at : ℕ) → at ≡ offset + 4 + 4 * i → wordAt image at ≡ argument session image i
@@ -222,7 +238,7 @@ module _ (k : Core) (offset size limit retries fetched : ℕ) (m image : List �
   close-am a p =
       rw p
       (close-done-same (asking (begun command.JumpAndClose (within Am17xx k)) command.JumpAndClose 1 noneKept) (settled (k .tally .totals)) once happened.Other once offset size limit
-      retries fetched _ 2 m)
+      retries fetched _ _ 2 m)
 
   close-dm : (a b c : ℕ) → a ≡ argument (in-dialect Dm648) image 0 → b ≡ argument (in-dialect Dm648) image 1 → c ≡ argument (in-dialect Dm648) image 2
       → Same (step.performed command.JumpAndClose (in-dialect Dm648) m image)
@@ -231,7 +247,7 @@ module _ (k : Core) (offset size limit retries fetched : ℕ) (m image : List �
   close-dm a b c p q r =
       rw (p, q, r)
       (close-done-same (asking (begun command.JumpAndClose (within Dm648 k)) command.JumpAndClose 1 _) (settled (k .tally .totals)) once happened.Other once offset size limit
-      retries fetched _ 4 m)
+      retries fetched _ _ 4 m)
 
   close-same : (d : Dialect) (words : ℕ) → rowIs Flash d command.JumpAndClose words ≡ true
       → Same (step.performed command.JumpAndClose (in-dialect d) m image)
@@ -286,7 +302,7 @@ module _ (k : Core) (offset size limit retries fetched : ℕ) (m image : List �
       (λ (j : Judged). Same (step.loadJudgedAs session m image (argument session image 0) (argument session image 1) j)
       (machine._leaving_
       (machine.loadBegun (asking (begun command.Load k) command.Load 1 (machine.keeping noneKept (argument session image 0))) (argument session image 0)
-      (argument session image 1) j) m))
+      (argument session image 1) (machine.numbering (begun command.Load k) j)) m))
       (sym judged)
       (record {
         refusal = refl;
@@ -295,17 +311,37 @@ module _ (k : Core) (offset size limit retries fetched : ℕ) (m image : List �
         alike = record { windows = refl; dialect = refl; ended = refl; on = refl; register = refl; totals = once };
       }))
 
+  -- no number for it
+  load-spent-same : (a b : ℕ) → a ≡ argument session image 0 → b ≡ argument session image 1 → (place : ℕ)
+      → step.overflowing session b (loadJudged (k .windows) a b) ≡ Granted place → isSpent (settled (k .tally .totals)) ≡ true
+      → offset + 12 + 4 * ((b + 3) / 4) ≤ length image
+      → Same (step.performed command.Load session m image) (doneWith opcode command.Load (begun command.Load k) m (a ∷ b ∷ []))
+  unfolding doneAtLast
+  load-spent-same a b p r place judged spent there =
+      let reached : Core = asking (begun command.Load k) command.Load 1 (machine.keeping noneKept a) in
+      let in-flash = sym (load-read session m image p r (sym judged)) ∙ load-spent session m image a b place there spent in
+      let sent : machine.counting reached b (loadJudged (k .windows) a b) ≡ Refused Number = ap (machine.numbering reached) judged ∙ bars _ _ place spent in
+      subst₂ Same (sym in-flash) (sym (ap (λ (j : Judged). machine._leaving_ (machine.loadBegun reached a b j) m) sent))
+      (record {
+        refusal = refl;
+        event = refl;
+        memory = refl;
+        alike = record { windows = refl; dialect = refl; ended = refl; on = refl; register = refl; totals = once };
+      })
+
   load-granted-same : (a b : ℕ) → a ≡ argument session image 0 → b ≡ argument session image 1 → (place : ℕ)
-      → step.overflowing session b (loadJudged (k .windows) a b) ≡ Granted place → ((i : ℕ) → getD image i 0 < 256) → offset + 12 + 4 * ((b + 3) / 4) ≤ length image
+      → step.overflowing session b (loadJudged (k .windows) a b) ≡ Granted place → isSpent (settled (k .tally .totals)) ≡ false
+      → ((i : ℕ) → getD image i 0 < 256) → offset + 12 + 4 * ((b + 3) / 4) ≤ length image
       → Same (step.performed command.Load session m image)
       (afterWords (doneWith opcode command.Load (begun command.Load k) m (a ∷ b ∷ [])) (wordsAt image (offset + 12) ((b + 3) / 4)))
   unfolding doneAtLast
-  load-granted-same a b p r place judged small there =
+  load-granted-same a b p r place judged unspent small there =
       let reached : Core = asking (begun command.Load k) command.Load 1 (machine.keeping noneKept a) in
       let words : List ℕ = wordsAt image (offset + 12) ((b + 3) / 4) in
-      let in-flash = sym (load-read session m image p r (sym judged)) ∙ load-whole session m image a b place there in
-      let sent = load-in-pieces reached m (machine.keeping noneKept a) b place words judged (words-length image ((b + 3) / 4) (offset + 12)) in
-      subst₂ Same (sym in-flash)
+      let in-flash = sym (load-read session m image p r (sym judged)) ∙ load-whole session m image a b place there unspent in
+      let sent = load-in-pieces reached m (machine.keeping noneKept a) b place words (unbarred _ _ _ unspent ∙ judged) (words-length image ((b + 3) / 4) (offset + 12)) in
+      unwritten-same _
+      (subst₂ Same (sym in-flash)
       (sym
       (sent
       ∙ ap
@@ -319,7 +355,7 @@ module _ (k : Core) (offset size limit retries fetched : ℕ) (m image : List �
         event = refl;
         memory = refl;
         alike = record { windows = refl; dialect = refl; ended = refl; on = refl; register = refl; totals = counted-settled (k .dialect) (k .tally .totals) b };
-      })
+      }))
 
 -- a call comes to the command of its row, its words fetched
 called : (s : Session) (m image : List ℕ) (k : Core) → Before s m image k → (c : Command) (words : ℕ)
@@ -375,7 +411,10 @@ module _ (m image : List ℕ) (k : Core) (offset size limit retries fetched : �
       record {
         refused = λ q judged.
             subst₂ Same in-flash (sym in-sent) (load-refused-same k offset size limit retries (flash.countedOn fetched 3) m image word _ _ first second q judged);
-        granted = λ place judged all.
+        spent = λ place judged none all.
+            subst₂ Same in-flash (sym in-sent)
+            (load-spent-same k offset size limit retries (flash.countedOn fetched 3) m image word _ _ first second place (rw (first, second) judged) none (rw second all));
+        granted = λ place judged unspent all.
             subst₂ Same in-flash
             (sym
             (after-append (wordStep k m word) (wordsAt image (offset + 4) 2) _
@@ -384,7 +423,7 @@ module _ (m image : List ℕ) (k : Core) (offset size limit retries fetched : �
             (λ (n : ℕ). Same (step.performed command.Load (flash.fetching 3 here) m image)
             (afterWords (doneWith word command.Load (begun command.Load k) m (wordsAt image (offset + 4) 2)) (wordsAt image (offset + 12) ((n + 3) / 4))))
             second
-            (load-granted-same k offset size limit retries (flash.countedOn fetched 3) m image word _ _ first second place (rw (first, second) judged) (b .bytes)
+            (load-granted-same k offset size limit retries (flash.countedOn fetched 3) m image word _ _ first second place (rw (first, second) judged) unspent (b .bytes)
             (rw second all)));
       }
 

@@ -15,7 +15,7 @@ use Rattle.script.specs.declared.Dialect.the-variants.{Am17xx, Dm648}
 use Rattle.script.specs.declared.Found.the-variants.{Known}
 use Rattle.script.specs.declared.Mode.the-variants.{Flash, Sent}
 use Rattle.script.specs.declared.Refusal.{Refusal}
-use Rattle.totals.specs.Totals.{settled}
+use Rattle.totals.specs.Totals.{isSpent, settled}
 use Rattle.commands.specs.Commands.{loadJudged}
 use Rattle.commands.specs.declared.Judged.{Judged}
 use Rattle.commands.specs.declared.Judged.the-variants.{Granted, Refused}
@@ -79,7 +79,10 @@ module _ (s : Session) (m image : List ℕ) (k : Core) where
 
   pub record SameLoad : Type 0 where
     pub refused : (q : Refusal) → loadIs ≡ Refused q → Same (stepOf s m image) (sentWith (wordsAt image (s .offset + 4) 2))
-    pub granted : (place : ℕ) → loadIs ≡ Granted place → s .offset + 12 + 4 * ((loadSize + 3) / 4) ≤ length image
+    -- or without a number, its data there
+    pub spent : (place : ℕ) → loadIs ≡ Granted place → isSpent (s .totals) ≡ true → s .offset + 12 + 4 * ((loadSize + 3) / 4) ≤ length image
+        → Same (stepOf s m image) (sentWith (wordsAt image (s .offset + 4) 2))
+    pub granted : (place : ℕ) → loadIs ≡ Granted place → isSpent (s .totals) ≡ false → s .offset + 12 + 4 * ((loadSize + 3) / 4) ≤ length image
         → Same (stepOf s m image) (sentWith (wordsAt image (s .offset + 4) 2 ++ wordsAt image (s .offset + 12) ((loadSize + 3) / 4)))
 
   -- Request differs. Sent, it has no argument: the register is said and becomes 0, the Request stands unsettled, and the session goes on

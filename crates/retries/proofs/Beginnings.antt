@@ -1,5 +1,5 @@
 -- Where an attempt begins: after an Enable, a Request or a Start-Over that was taken as an opcode, since each puts the register to 0 and levels the totals; and
--- after the answered start unit, since from the opening on both are 0 until an opcode is acknowledged. What a session has gathered and the memory that it is
+-- after the answered start unit, since from the opening on the register is 0 and the totals stand at their mark until an opcode is acknowledged. What a session has gathered and the memory that it is
 -- lent are as they must be, since units keep them so.
 use Prim.Native.Nat.{ℕ}
 use mathlib.Core.Bool.{Bool, true, false, not, _&&_, _||_, or-true}
@@ -30,7 +30,7 @@ use Rattle.sent.specs.declared.Tally.{Tally}
 use Rattle.sent.proofs.Cases.{unit-start}
 use Rattle.retries.specs.Pieces.{enableOpcode, requestOpcode, startOverOpcode}
 use Rattle.retries.specs.Retries.{Awaits, Begins, Reached, Whole, Idle, AtStart, JustAfter, after-start, after-enable, after-request, after-start-over, afterRequest, Beginnings}
-use Rattle.retries.proofs.Reached.{reached-sound, StartUnit, answered-start}
+use Rattle.retries.proofs.Reached.{unused-level, reached-unused, reached-sound, StartUnit, answered-start}
 use Rattle.retries.proofs.Taking.{enable-row, awaiting, opcode-goes, request-goes, start-over-goes}
 
 -- the state that awaits an opcode, written out
@@ -159,8 +159,8 @@ module _ (bus : Bus) (x : State) (r : Reached bus x) where
             fresh = (at .fresh, sound .gathered (at .fresh));
             opcode = sound .unbegun (at .before) .1;
           };
-          rewound = ap (λ (t : Tally). t .register) (sound .unbegun (at .before) .0);
-          level = subst Level (sym (ap (λ (t : Tally). t .totals) (sound .unbegun (at .before) .0))) (level-there .at-opening);
+          rewound = ap (λ (t : Tally). t .register) (sound .unbegun (at .before) .0) ∙ reached-unused bus x r .register;
+          level = subst Level (sym (ap (λ (t : Tally). t .totals) (sound .unbegun (at .before) .0))) (unused-level _ (reached-unused bus x r));
         })
 
     start-asked : totals (next bus x u) .asked ≡ false
@@ -168,6 +168,7 @@ module _ (bus : Bus) (x : State) (r : Reached bus x) where
         ap (λ (o : Outcome). o .answer .session .core .tally .totals .asked)
         (unit-start bus (x .session) (x .memory) u (start-unit .running) (start-unit .lent) (start-unit .start))
         ∙ ap (λ (t : Tally). t .totals .asked) (reached-sound bus x r .unbegun (only-start .2 .before) .0)
+        ∙ reached-unused bus x r .unasked
 
 just-after-begins : (bus : Bus) (x : State) → JustAfter bus x → Begins x
 just-after-begins bus x (after-start {x = y} u r answered) = start-begins bus y r u answered

@@ -20,18 +20,18 @@ use Rattle.windows.specs.Window.{hasRight, inside, grantsRange, placeFrom, plac
 use Rattle.windows.specs.Map.{soundWindow, allSound, rising, goodMap, keptOf}
 use Rattle.script.specs.Opcodes.{rows, rowServes, foundIn, lookedUp}
 use Rattle.totals.specs.Attempts.{Level}
-use Rattle.totals.specs.Totals.{isPast}
+use Rattle.totals.specs.Totals.{isPast, following}
 use Rattle.commands.specs.Commands.{multiple, rangeJudged, loadJudged, loaded, unitOf, unitsJudged, fieldShape, shapeOf, tooWide, settingDone, settingMemory}
 use Rattle.sent.specs.Bus.{startUnit, allUnits, pushed}
 use Rattle.sent.specs.Feeding.{State, Heard, AreBytes, register, totals, heard, fed, answers, NoneRefused}
 use Rattle.sent.specs.Line.{carried, isStart, unitStep}
 use Rattle.sent.specs.Machine.{after as afterCommand, awaited, acknowledging, wordStep}
-use Rattle.sent.specs.Opening.{openedBy}
+use Rattle.sent.specs.Opening.{openedBy, numberingFrom}
 use Rattle.sent.specs.Replies.{silence, startAnswer}
 use Rattle.sent.specs.declared.Bus.{Bus}
 use Rattle.sent.specs.declared.Bus.the-variants.{Bytes, Halves}
 use Rattle.sent.proofs.Feeding.{none-refused-by}
-use Rattle.retries.specs.Example.{windows, before, start, sent, abandoned, repeated, oneLoad, Worked, missing, OneBitMissed, middle, nothing, InTheMiddle, requested, StartOverAlone, unmarked, NotLevel, started, NothingFollows, shorter, short, MemoryTooShort}
+use Rattle.retries.specs.Example.{windows, before, startedTo, startTo, start, sent, abandoned, repeated, oneLoad, Worked, missing, OneBitMissed, middle, nothing, InTheMiddle, requested, StartOverAlone, unmarked, NotLevel, setOnce, NumberNotLevel, started, NothingFollows, shorter, short, MemoryTooShort}
 use Rattle.retries.specs.Pieces.{allWords, AllSendable, effectOf, someWrites}
 use Rattle.retries.specs.Retries.{after, Awaits, sinceOpening, Reached, Idle, AtStart, JustAfter, after-start, after-enable, attemptWords, Retried}
 use Rattle.retries.proofs.Beginnings.{beginnings}
@@ -72,7 +72,7 @@ eight e f = cc
 
 -- all that is computed of the instance
 record Computed (bus : Bus) (dialect : Dialect) : Type 0 where
-  answered : heard bus (sinceOpening bus dialect 1 windows before []) (startUnit bus) .reply ≡ startAnswer bus
+  answered : heard bus (sinceOpening true bus dialect 1 windows before []) (startUnit bus) .reply ≡ startAnswer bus
   idle : Idle (started bus dialect)
   tried : refusals bus (start bus dialect) (attemptWords abandoned) ≡ quiet bus (attemptWords abandoned)
   after-tried : refusals bus (after bus (start bus dialect) (attemptWords abandoned)) (allWords repeated) ≡ quiet bus (allWords repeated)
@@ -81,13 +81,14 @@ record Computed (bus : Bus) (dialect : Dialect) : Type 0 where
   after-repeat : after bus (start bus dialect) (attemptWords abandoned ++ allWords repeated) .memory ≡ 0x1F ∷ 0x02 ∷ 0 ∷ 0 ∷ 0x11 ∷ 0x22 ∷ 0x33 ∷ 0xAA ∷ []
   never-tried : after bus (start bus dialect) (allWords repeated) .memory ≡ 0x1F ∷ 0x02 ∷ 0 ∷ 0 ∷ 0x11 ∷ 0x22 ∷ 0x33 ∷ 0xAA ∷ []
   counted : totals (after bus (start bus dialect) (attemptWords abandoned ++ allWords repeated)) .now ≡ oneLoad dialect
+  numbered : totals (after bus (start bus dialect) (attemptWords abandoned ++ allWords repeated)) .next ≡ 4
   unasked : totals (start bus dialect) .asked ≡ false
 
 computed : (bus : Bus) (dialect : Dialect) → Computed bus dialect
 unfolding bit join withField within byte number bytesAt put fits fieldFits fieldWritten pick checksum.shifted checksum.fedBit checksum.fed
     checksum.fedWords hasRight inside grantsRange placeFrom placeOf sumOf soundWindow allSound rising goodMap keptOf rows rowServes foundIn
     lookedUp multiple rangeJudged loadJudged loaded unitOf unitsJudged fieldShape shapeOf tooWide settingDone settingMemory isPast pushed carried isStart unitStep
-    afterCommand awaited acknowledging wordStep openedBy startAnswer start fed allWords answers started effectOf someWrites
+    afterCommand awaited acknowledging wordStep openedBy numberingFrom following startAnswer startTo fed allWords answers startedTo effectOf someWrites
 computed Bytes Am17xx = record {
   answered = refl;
   idle = record { running = refl; started = refl; fresh = refl; opcode = refl };
@@ -98,6 +99,7 @@ computed Bytes Am17xx = record {
   after-repeat = refl;
   never-tried = refl;
   counted = refl;
+  numbered = refl;
   unasked = refl;
 }
 computed Bytes Dm648 = record {
@@ -110,6 +112,7 @@ computed Bytes Dm648 = record {
   after-repeat = refl;
   never-tried = refl;
   counted = refl;
+  numbered = refl;
   unasked = refl;
 }
 computed Halves Am17xx = record {
@@ -122,6 +125,7 @@ computed Halves Am17xx = record {
   after-repeat = refl;
   never-tried = refl;
   counted = refl;
+  numbered = refl;
   unasked = refl;
 }
 computed Halves Dm648 = record {
@@ -134,6 +138,7 @@ computed Halves Dm648 = record {
   after-repeat = refl;
   never-tried = refl;
   counted = refl;
+  numbered = refl;
   unasked = refl;
 }
 
@@ -162,6 +167,13 @@ record Against : Type 0 where
   unmarked-tried : refusals Bytes unmarked (attemptWords nothing) ≡ quiet Bytes (attemptWords nothing)
   after-unmarked : refusals Bytes (after Bytes unmarked (attemptWords nothing)) (allWords repeated) ≡ quiet Bytes (allWords repeated)
   mark-lost : eqb (sectionsOf (after Bytes unmarked (attemptWords nothing ++ allWords repeated))) (sectionsOf (after Bytes unmarked (allWords repeated))) ≡ false
+  awaits-set : Awaits setOnce
+  rewound-set : register setOnce ≡ 0
+  settled-set : totals setOnce .asked ≡ false
+  marked-set : totals setOnce .now ≡ totals setOnce .mark
+  set-tried : refusals Bytes setOnce (attemptWords nothing) ≡ quiet Bytes (attemptWords nothing)
+  after-set : refusals Bytes (after Bytes setOnce (attemptWords nothing)) (allWords repeated) ≡ quiet Bytes (allWords repeated)
+  number-lost : eqb (totals (after Bytes setOnce (attemptWords nothing ++ allWords repeated)) .next) (totals (after Bytes setOnce (allWords repeated)) .next) ≡ false
   started-tried : refusals Bytes (started Bytes Am17xx) (attemptWords nothing) ≡ quiet Bytes (attemptWords nothing)
   acknowledged-one : after Bytes (started Bytes Am17xx) (attemptWords nothing ++ []) .session .core .begun ≡ true
   acknowledged-none : after Bytes (started Bytes Am17xx) [] .session .core .begun ≡ false
@@ -172,7 +184,7 @@ against : Against
 unfolding bit join withField within byte number bytesAt put fits fieldFits fieldWritten pick checksum.shifted checksum.fedBit checksum.fed
     checksum.fedWords hasRight inside grantsRange placeFrom placeOf sumOf soundWindow allSound rising goodMap keptOf rows rowServes foundIn
     lookedUp multiple rangeJudged loadJudged loaded unitOf unitsJudged fieldShape shapeOf tooWide settingDone settingMemory isPast pushed carried isStart unitStep
-    afterCommand awaited acknowledging wordStep openedBy start fed allWords answers middle requested unmarked started short allSmall
+    afterCommand awaited acknowledging wordStep openedBy numberingFrom following startTo fed allWords answers middle requested unmarked setOnce startedTo short allSmall
 against = record {
   after-missing = refl;
   bit-left = refl;
@@ -184,7 +196,7 @@ against = record {
     fresh = (refl, refl);
     opcode = refl;
   };
-  level-middle = refl;
+  level-middle = (refl, refl);
   middle-tried = refl;
   after-middle = refl;
   register-lost = refl;
@@ -199,7 +211,7 @@ against = record {
     opcode = refl;
   };
   rewound-requested = refl;
-  level-requested = refl;
+  level-requested = (refl, refl);
   total-lost = refl;
   awaits-unmarked = record {
     running = refl;
@@ -214,6 +226,20 @@ against = record {
   unmarked-tried = refl;
   after-unmarked = refl;
   mark-lost = refl;
+  awaits-set = record {
+    running = refl;
+    lent = eight refl refl;
+    bytes = bytes-by (0x2F ∷ 0 ∷ 0 ∷ 0 ∷ 0xAA ∷ 0xAA ∷ 0xAA ∷ 0xAA ∷ []) refl;
+    started = refl;
+    fresh = (refl, refl);
+    opcode = refl;
+  };
+  rewound-set = refl;
+  settled-set = refl;
+  marked-set = refl;
+  set-tried = refl;
+  after-set = refl;
+  number-lost = refl;
   started-tried = refl;
   acknowledged-one = refl;
   acknowledged-none = refl;
@@ -222,15 +248,15 @@ against = record {
 }
 
 -- units lead there from an opening, and the attempts begin just after the start unit and just after an Enable
-reached : (bus : Bus) (dialect : Dialect) (m units : List ℕ) → allSmall m ≡ true → Reached bus (sinceOpening bus dialect 1 windows m units)
-reached bus dialect m units small = record { dialect = dialect; count = 1; windows = windows; memory = m; sent = units; bytes = bytes-by m small; leads = refl }
+reached : (bus : Bus) (dialect : Dialect) (m units : List ℕ) → allSmall m ≡ true → Reached bus (sinceOpening true bus dialect 1 windows m units)
+reached bus dialect m units small = record { numbers = true; dialect = dialect; count = 1; windows = windows; memory = m; sent = units; bytes = bytes-by m small; leads = refl }
 
 started-after : (bus : Bus) (dialect : Dialect) → JustAfter bus (started bus dialect)
-unfolding started fed allSmall
+unfolding startedTo fed allSmall
 started-after bus dialect = after-start (startUnit bus) (reached bus dialect before [] refl) (computed bus dialect .answered)
 
 start-after : (bus : Bus) (dialect : Dialect) → JustAfter bus (start bus dialect)
-unfolding start started fed allSmall
+unfolding startTo startedTo fed allSmall
 start-after bus dialect = after-enable (reached bus dialect before (startUnit bus ∷ []) refl) (computed bus dialect .idle)
 
 -- the attempt, and what follows
@@ -262,6 +288,7 @@ worked bus dialect =
       after-repeat = computed bus dialect .after-repeat;
       never-tried = computed bus dialect .never-tried;
       counted = computed bus dialect .counted;
+      numbered = computed bus dialect .numbered;
     }
 
 -- bit 6 of the first byte
@@ -322,6 +349,24 @@ not-level =
       };
       covered = λ p h. absurd (false≢true h);
       trace = λ none. eqb-false _ _ (against .mark-lost) (ap sectionsOf (none .same-state));
+    }
+
+-- a number
+pub number-not-level : NumberNotLevel
+unfolding AllSendable someWrites
+number-not-level =
+    record {
+      awaits = against .awaits-set;
+      rewound = against .rewound-set;
+      settled = against .settled-set;
+      marked = against .marked-set;
+      accepted = record {
+        sendable = (tt, repeat-sendable 0x00060403 (lit< tt));
+        attempt-accepted = none-refused-by Bytes setOnce (allUnits Bytes (attemptWords nothing)) (against .set-tried);
+        following-accepted = none-refused-by Bytes (after Bytes setOnce (attemptWords nothing)) (allUnits Bytes (allWords repeated)) (against .after-set);
+      };
+      covered = λ p h. absurd (false≢true h);
+      trace = λ none. eqb-false _ _ (against .number-lost) (ap (λ (x : State). totals x .next) (none .same-state));
     }
 
 -- whether an opcode has been acknowledged

@@ -6,15 +6,17 @@ use mathlib.Core.Path.{_≡_, refl, sym, ap, subst, _∙_}
 use native.Mathlib.Omega.{arith}
 use lib.ListN.{length}
 use borrow.Author.Tests.{eqb-true, not-false}
-use Rattle.words.proofs.Choice.{by-test, of-choice}
+use Rattle.words.proofs.Choice.{passed, by-test, of-choice}
 use Rattle.windows.specs.Window.{sumOf}
 use Rattle.windows.specs.declared.Window.{Window}
 use Rattle.script.specs.declared.Dialect.{Dialect}
-use Rattle.totals.specs.Totals.{atOpening}
+use Rattle.words.specs.Choice.{pick}
+use Rattle.totals.specs.Attempts.{Level}
+use Rattle.totals.specs.declared.Totals.{Totals}
 use Rattle.sent.specs.Feeding.{State, AreBytes, next, heard, fed}
 use Rattle.sent.specs.Line.{Outcome, gathered, carried, isStart, unitStep}
-use Rattle.sent.specs.Machine.{tallied, wordStep}
-use Rattle.sent.specs.Opening.{atStart, openedBy}
+use Rattle.sent.specs.Machine.{wordStep}
+use Rattle.sent.specs.Opening.{openedBy, numberingFrom}
 use Rattle.sent.specs.Replies.{startAnswer}
 use Rattle.sent.specs.declared.Bus.{Bus}
 use Rattle.sent.specs.declared.Bus.the-variants.{Bytes, Halves}
@@ -22,16 +24,18 @@ use Rattle.sent.specs.declared.Core.{Core}
 use Rattle.sent.specs.declared.Line.{Line}
 use Rattle.sent.specs.declared.Opened.{Opened}
 use Rattle.sent.specs.declared.Phase.the-variants as phase
+use Rattle.sent.specs.declared.Session.{Session}
+use Rattle.sent.specs.declared.Tally.{Tally}
 use Rattle.sent.proofs.Every.{every-word}
-use Rattle.retries.specs.Retries.{Reached, opened, Sound}
+use Rattle.retries.specs.Retries.{openedTo, Reached, opened, Sound}
 
--- until an opcode is acknowledged register and totals are 0 and an opcode is awaited
-abbrev pub Unbegun : Core → Type 0
-Unbegun k = k .begun ≡ false → (k .tally ≡ tallied 0 atOpening) × (k .stage .phase ≡ phase.Opcode)
+-- until an opcode is acknowledged register and totals are those of the opening and an opcode is awaited
+abbrev pub Unbegun : Tally → Core → Type 0
+Unbegun first k = k .begun ≡ false → (k .tally ≡ first) × (k .stage .phase ≡ phase.Opcode)
 
 -- so it stays: a word that leaves none acknowledged leaves the core as it was, ended
-word-unbegun : (k : Core) (m : List ℕ) (word : ℕ) → Unbegun k → Unbegun (wordStep k m word .answer .core)
-word-unbegun k m word unbegun e =
+word-unbegun : (first : Tally) (k : Core) (m : List ℕ) (word : ℕ) → Unbegun first k → Unbegun first (wordStep k m word .answer .core)
+word-unbegun first k m word unbegun e =
     let every = every-word k m word in
     let before : k .begun ≡ false = by-test (k .begun) (λ t. absurd (true≢false (sym (every .begun t) ∙ e))) (λ f. f) in
     let was = unbegun before in
@@ -42,10 +46,10 @@ word-unbegun k m word unbegun e =
 abbrev stateOf : Outcome → State
 stateOf o = record { session = o .answer .session; memory = o .memory }
 
-module _ (windows : List Window) (size : ℕ) where
+module _ (first : Core) (size : ℕ) where
   -- a started line on memory of the map's length, with other units gathered
-  gathered-sound : (x : State) (have word : ℕ) → Sound windows size x → length (x .memory) ≡ sumOf (x .session .core .windows) → (have ≡ 0 → word ≡ 0)
-      → Sound windows size (record { session = gathered (x .session) true have word; memory = x .memory })
+  gathered-sound : (x : State) (have word : ℕ) → Sound first size x → length (x .memory) ≡ sumOf (x .session .core .windows) → (have ≡ 0 → word ≡ 0)
+      → Sound first size (record { session = gathered (x .session) true have word; memory = x .memory })
   gathered-sound x have word sound lent clear =
       record {
         same-windows = sound .same-windows;
@@ -58,8 +62,8 @@ module _ (windows : List Window) (size : ℕ) where
       }
 
   -- a whole word, on the line
-  carried-sound : (x : State) (word : ℕ) → Sound windows size x → x .session .line .started ≡ true
-      → Sound windows size (stateOf (carried (x .session) (wordStep (x .session .core) (x .memory) word)))
+  carried-sound : (x : State) (word : ℕ) → Sound first size x → x .session .line .started ≡ true
+      → Sound first size (stateOf (carried (x .session) (wordStep (x .session .core) (x .memory) word)))
   unfolding carried
   carried-sound x word sound since =
       let every = every-word (x .session .core) (x .memory) word in
@@ -71,14 +75,14 @@ module _ (windows : List Window) (size : ℕ) where
         gathered = line .1;
         unstarted = λ e. absurd (true≢false (sym (line .0) ∙ e));
         started = λ e. sound .started since;
-        unbegun = word-unbegun (x .session .core) (x .memory) word (sound .unbegun);
+        unbegun = word-unbegun (first .tally) (x .session .core) (x .memory) word (sound .unbegun);
       }
 
   -- any unit, on either line
   abbrev SoundAfter : Outcome → Type 0
-  SoundAfter o = Sound windows size (stateOf o)
+  SoundAfter o = Sound first size (stateOf o)
 
-  next-sound : (bus : Bus) (x : State) (u : ℕ) → Sound windows size x → SoundAfter (unitStep bus (x .session) (x .memory) u)
+  next-sound : (bus : Bus) (x : State) (u : ℕ) → Sound first size x → SoundAfter (unitStep bus (x .session) (x .memory) u)
   unfolding unitStep
   next-sound bus x u sound =
       of-choice SoundAfter _ (λ h. sound)
@@ -88,36 +92,79 @@ module _ (windows : List Window) (size : ℕ) where
       (λ since. of-choice SoundAfter _ (λ h. gathered-sound x _ _ sound (eqb-true _ _ (not-false _ lent)) (λ z. absurd (omega (arith, z))))
       (λ h. carried-sound x _ sound (not-false _ since))))))
 
-  fed-sound : (bus : Bus) (x : State) (us : List ℕ) → Sound windows size x → Sound windows size (fed bus x us)
+  fed-sound : (bus : Bus) (x : State) (us : List ℕ) → Sound first size x → Sound first size (fed bus x us)
   unfolding fed
   fed-sound bus x [] sound = sound
   fed-sound bus x (u ∷ us) sound = fed-sound bus (next bus x u) us (next-sound bus x u sound)
 
--- at the opening, refused or not
-start-sound : (dialect : Dialect) (windows : List Window) (ended : Bool) (m : List ℕ) → AreBytes m
-    → Sound windows (length m) (record { session = atStart dialect windows ended; memory = m })
-start-sound dialect windows ended m are =
+-- a session at its opening, refused or not: nothing has come, the register is 0, and the totals and the next number stand at their mark
+pub record Unused (s : Session) : Type 0 where
+  pub unstarted : s .line .started ≡ false
+  pub fresh : (s .line .have ≡ 0) × (s .line .word ≡ 0)
+  pub unbegun : s .core .begun ≡ false
+  pub opcode : s .core .stage .phase ≡ phase.Opcode
+  pub register : s .core .tally .register ≡ 0
+  pub unasked : s .core .tally .totals .asked ≡ false
+  pub mark : s .core .tally .totals .now ≡ s .core .tally .totals .mark
+  pub back : s .core .tally .totals .next ≡ s .core .tally .totals .back
+
+unused-sound : (s : Session) (m : List ℕ) → AreBytes m → Unused s → Sound (s .core) (length m) (record { session = s; memory = m })
+unused-sound s m are unused =
     record {
       same-windows = refl;
       same-length = refl;
       bytes = are;
-      gathered = λ e. refl;
-      unstarted = λ e. (refl, refl);
-      started = λ e. absurd (false≢true e);
-      unbegun = λ e. (refl, refl);
+      gathered = λ e. unused .fresh .1;
+      unstarted = λ e. (unused .fresh .0, unused .unbegun);
+      started = λ e. absurd (false≢true (sym (unused .unstarted) ∙ e));
+      unbegun = λ e. (refl, unused .opcode);
     }
 
-opened-sound : (bus : Bus) (dialect : Dialect) (count : ℕ) (windows : List Window) (m : List ℕ) → AreBytes m
-    → Sound (openedBy bus dialect count windows .session .core .windows) (length m) (record { session = openedBy bus dialect count windows .session; memory = m })
+-- where no Request stands, what is at the mark is level
+pub unused-level : (s : Session) → Unused s → Level (s .core .tally .totals)
+unused-level s unused =
+    subst (λ (t : Totals). (t .now ≡ t .mark) × (t .next ≡ t .back)) (sym (passed _ _ _ (unused .unasked))) (unused .mark, unused .back)
+
+-- so is every opening
+abbrev Opens : Opened → Type 0
+Opens o = Unused (o .session)
+
+opened-unused : (bus : Bus) (dialect : Dialect) (count : ℕ) (windows : List Window) → Opens (openedBy bus dialect count windows)
 unfolding openedBy
-opened-sound bus dialect count windows m are =
-    of-choice (λ (o : Opened). Sound (o .session .core .windows) (length m) (record { session = o .session; memory = m })) _
-    (λ h. start-sound _ _ true m are) (λ h. start-sound _ _ false m are)
+opened-unused bus dialect count windows =
+    of-choice Opens _
+    (λ h. record { unstarted = refl; fresh = (refl, refl); unbegun = refl; opcode = refl; register = refl; unasked = refl; mark = refl; back = refl })
+    (λ h. record { unstarted = refl; fresh = (refl, refl); unbegun = refl; opcode = refl; register = refl; unasked = refl; mark = refl; back = refl })
+
+-- one that numbers too: its next number is 1, and so is that number's mark
+numbering-unused : (o : Opened) → Opens o → Opens (numberingFrom o)
+unfolding numberingFrom
+numbering-unused o u =
+    of-choice Opens _
+    (λ h. record {
+      unstarted = u .unstarted;
+      fresh = u .fresh;
+      unbegun = u .unbegun;
+      opcode = u .opcode;
+      register = u .register;
+      unasked = u .unasked;
+      mark = u .mark;
+      back = refl;
+    })
+    (λ h. u)
+
+pub opening-unused : (numbers : Bool) (bus : Bus) (dialect : Dialect) (count : ℕ) (windows : List Window) → Opens (openedTo numbers bus dialect count windows)
+unfolding pick
+opening-unused true bus dialect count windows = numbering-unused (openedBy bus dialect count windows) (opened-unused bus dialect count windows)
+opening-unused false bus dialect count windows = opened-unused bus dialect count windows
+
+pub reached-unused : (bus : Bus) (x : State) (r : Reached bus x) → Opens (openedTo (r .numbers) bus (r .dialect) (r .count) (r .windows))
+reached-unused bus x r = opening-unused (r .numbers) bus (r .dialect) (r .count) (r .windows)
 
 pub reached-sound : (bus : Bus) (x : State) (r : Reached bus x) → Sound (opened r) (length (r .memory)) x
 reached-sound bus x r =
     subst (Sound (opened r) (length (r .memory))) (r .leads)
-    (fed-sound (opened r) (length (r .memory)) bus _ (r .sent) (opened-sound bus (r .dialect) (r .count) (r .windows) (r .memory) (r .bytes)))
+    (fed-sound (opened r) (length (r .memory)) bus _ (r .sent) (unused-sound _ (r .memory) (r .bytes) (reached-unused bus x r)))
 
 -- a unit that is the start unit, in a running session on memory of its map's length
 pub record StartUnit (bus : Bus) (x : State) (u : ℕ) : Type 0 where

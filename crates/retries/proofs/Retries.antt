@@ -18,7 +18,7 @@ use Rattle.script.specs.declared.Dialect.{Dialect}
 use Rattle.script.specs.declared.Dialect.the-variants.{Am17xx, Dm648}
 use Rattle.script.specs.declared.Event.the-variants.{Nothing}
 use Rattle.totals.specs.Attempts.{Write, section, setting as noSection, wrote, wroteAll, Level, alone}
-use Rattle.totals.specs.Totals.{wouldPass, counted, settled, turned}
+use Rattle.totals.specs.Totals.{wouldPass, counted, isSpent, numbered, settled, turned}
 use Rattle.totals.specs.declared.Totals.{Totals}
 use Rattle.totals.proofs.Attempts.{no-total-left, level-there}
 use Rattle.totals.proofs.Laws.{settled-asks-nothing, settled-once}
@@ -35,10 +35,10 @@ use Rattle.retries.specs.Pieces.{Piece, allWords, AllSendable, Covers, s
 use Rattle.retries.specs.Retries.{after, Begins, Attempt, askingOpcode, attemptWords, attemptsWords, attemptsPieces, Reports, NoTrace, Retried, RetriesLeaveNoTrace, ManyRetriesLeaveNoTrace, RetriesSinceOpening}
 use Rattle.retries.proofs.Beginnings.{awaits-awaiting, beginnings}
 use Rattle.retries.proofs.Several.{talliesOf, memoriesOf, heardAll, begunBy, AllGranted, AllFit, sendable-append, granted-append, memories-append, several-length, written-over, several-go, several-accepted}
-use Rattle.retries.proofs.Taking.{registerOf, writeOf, passes, tallyOf, awaiting, heardSaid, opcode-goes, request-goes, start-over-goes}
+use Rattle.retries.proofs.Taking.{registerOf, writeOf, Room, tallyOf, awaiting, heardSaid, opcode-goes, request-goes, start-over-goes}
 
 -- the state where an attempt begins
-begins-awaiting : (x : State) → Begins x
+pub begins-awaiting : (x : State) → Begins x
     → x ≡ awaiting (x .session .core .windows) (x .session .core .dialect) (x .session .core .on) (x .session .core .begun) (tallied 0 (totals x)) (x .memory)
 begins-awaiting x b =
     let core = x .session .core in
@@ -50,12 +50,12 @@ after-append : (bus : Bus) (x : State) (ws vs : List ℕ) → after bus x (ws ++
 after-append bus x ws vs = ap (fed bus x) (units-append bus ws vs) ∙ fed-append bus x (allUnits bus ws) (allUnits bus vs)
 
 -- what any number of attempts leave: all of them granted, their last state, and totals that settle to the same
-record Left (bus : Bus) (windows : List Window) (dialect : Dialect) (on : Bool) (attempts : List Attempt) (begun : Bool) (t : Totals) (m : List ℕ) : Type 0 where
-  granted : AllGranted windows (attemptsPieces attempts)
-  later : Bool
-  last : Totals
-  same : settled last ≡ settled t
-  leads : after bus (awaiting windows dialect on begun (tallied 0 t) m) (attemptsWords attempts)
+pub record Left (bus : Bus) (windows : List Window) (dialect : Dialect) (on : Bool) (attempts : List Attempt) (begun : Bool) (t : Totals) (m : List ℕ) : Type 0 where
+  pub granted : AllGranted windows (attemptsPieces attempts)
+  pub later : Bool
+  pub last : Totals
+  pub same : settled last ≡ settled t
+  pub leads : after bus (awaiting windows dialect on begun (tallied 0 t) m) (attemptsWords attempts)
       ≡ awaiting windows dialect on later (tallied 0 last) (memoriesOf windows (attemptsPieces attempts) m)
 
 -- to the totals, the commands of an attempt
@@ -69,7 +69,7 @@ tallies-totals dialect on [] tally = refl
 tallies-totals dialect on (c ∷ cs) tally = tallies-totals dialect on cs (tallyOf dialect on c tally)
 
 -- a first attempt whose first word is no Start-Over where a Request stands, is no Start-Over alone after it; and where none stands, no attempt is
-first-not-alone : (pieces : List Piece) (asked : Bool) (more : List ℕ) (t : Totals)
+pub first-not-alone : (pieces : List Piece) (asked : Bool) (more : List ℕ) (t : Totals)
     → (t .asked ≡ true → getD (attemptWords (record { pieces = pieces; asked = asked }) ++ more) 0 0 ≢ startOverOpcode)
     → alone t (writesOf pieces) asked ≡ false
 unfolding allWords pick
@@ -78,18 +78,19 @@ first-not-alone [] true more t other = refl
 first-not-alone (c ∷ cs) asked more t other = refl
 
 -- totals that settle to the same: what commands make of them is the same
-wrote-alike : (dialect : Dialect) (w : Write) (a b : Totals) → settled a ≡ settled b → wrote dialect a w ≡ wrote dialect b w
-wrote-alike dialect (section size) a b same = ap (λ (t : Totals). counted dialect t size) same
-wrote-alike dialect noSection a b same = same
+pub wrote-alike : (dialect : Dialect) (w : Write) (a b : Totals) → settled a ≡ settled b → wrote dialect a w ≡ wrote dialect b w
+wrote-alike dialect (section size) a b same = ap (λ (t : Totals). numbered (counted dialect t size)) same
+wrote-alike dialect noSection a b same = ap numbered same
 
-passes-alike : (dialect : Dialect) (w : Write) (a b : Totals) → settled a ≡ settled b → passes dialect a w ≡ passes dialect b w
-passes-alike dialect (section size) a b same = ap (λ (t : Totals). wouldPass dialect t size) same
-passes-alike dialect noSection a b same = refl
+room-alike : (dialect : Dialect) (w : Write) (a b : Totals) → settled a ≡ settled b → Room dialect a w → Room dialect b w
+room-alike dialect (section size) a b same room =
+    subst (λ (t : Totals). (wouldPass dialect t size ≡ false) × (isSpent t ≡ false)) same room
+room-alike dialect noSection a b same room = subst (λ (t : Totals). isSpent t ≡ false) same room
 
-fit-alike : (dialect : Dialect) (c : Piece) (cs : List Piece) (a b : Totals) → settled a ≡ settled b → AllFit dialect a (c ∷ cs) → AllFit dialect b (c ∷ cs)
+pub fit-alike : (dialect : Dialect) (c : Piece) (cs : List Piece) (a b : Totals) → settled a ≡ settled b → AllFit dialect a (c ∷ cs) → AllFit dialect b (c ∷ cs)
 unfolding AllFit
 fit-alike dialect c cs a b same f =
-    (sym (passes-alike dialect (writeOf c) a b same) ∙ f .0, subst (λ (t : Totals). AllFit dialect t cs) (wrote-alike dialect (writeOf c) a b same) (f .1))
+    (room-alike dialect (writeOf c) a b same (f .0), subst (λ (t : Totals). AllFit dialect t cs) (wrote-alike dialect (writeOf c) a b same) (f .1))
 
 tallies-alike : (dialect : Dialect) (on : Bool) (c : Piece) (cs : List Piece) (a b : Totals) → settled a ≡ settled b
     → talliesOf dialect on (c ∷ cs) (tallied 0 a) ≡ talliesOf dialect on (c ∷ cs) (tallied 0 b)
@@ -125,7 +126,7 @@ module _ (bus : Bus) (windows : List Window) (dialect : Dialect) (on : Bool) whe
       ∙ (start-over-goes bus windows dialect on true _ m lent then nothing-goes bus _) .leads
   closing-leads false begun tally m lent = (start-over-goes bus windows dialect on begun tally m lent then nothing-goes bus _) .leads
 
-  attempt-leads : (a : Attempt) (begun : Bool) (t : Totals) (m : List ℕ) → length m ≡ sumOf windows
+  pub attempt-leads : (a : Attempt) (begun : Bool) (t : Totals) (m : List ℕ) → length m ≡ sumOf windows
       → AllSendable (a .pieces) → AllGranted windows (a .pieces) → AllFit dialect t (a .pieces) → Level t → alone t (writesOf (a .pieces)) (a .asked) ≡ false
       → after bus (awaiting windows dialect on begun (tallied 0 t) m) (attemptWords a)
       ≡ awaiting windows dialect on true (tallied 0 (settled t)) (memoriesOf windows (a .pieces) m)
@@ -139,7 +140,7 @@ module _ (bus : Bus) (windows : List Window) (dialect : Dialect) (on : Bool) whe
       ∙ no-total-left .abandons dialect t (writesOf (a .pieces)) (a .asked) level other)
 
   -- any number of attempts
-  attempts-lead : (attempts : List Attempt) (begun : Bool) (t : Totals) (m : List ℕ) → length m ≡ sumOf windows → Level t
+  pub attempts-lead : (attempts : List Attempt) (begun : Bool) (t : Totals) (m : List ℕ) → length m ≡ sumOf windows → Level t
       → (t .asked ≡ true → getD (attemptsWords attempts) 0 0 ≢ startOverOpcode)
       → AllSendable (attemptsPieces attempts) → NoneRefused bus (awaiting windows dialect on begun (tallied 0 t) m) (allUnits bus (attemptsWords attempts))
       → Left bus windows dialect on attempts begun t m

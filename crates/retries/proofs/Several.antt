@@ -27,7 +27,7 @@ use Rattle.sent.proofs.Memory.{if-over, loaded-over, fill-over, setting-over, t
 use Rattle.retries.specs.Pieces.{Piece, load, fill, setting, wordsOf, allWords, bytesLoaded, Sendable, AllSendable, judgedOf, effectOf, someWrites, Covers}
 use Rattle.sent.proofs.Granted.{GrantedAt}
 use Rattle.retries.proofs.Accepted.{piece-accepted}
-use Rattle.retries.proofs.Taking.{writeOf, passes, tallyOf, memoryOf, heardOf, awaiting, piece-goes}
+use Rattle.retries.proofs.Taking.{writeOf, Room, tallyOf, memoryOf, heardOf, awaiting, piece-goes}
 
 -- register and totals, and the memory after several commands, what is heard of them, and whether an opcode has been acknowledged
 unfoldable pub talliesOf : Dialect → Bool → List Piece → Tally → Tally
@@ -56,10 +56,10 @@ unfoldable pub AllGranted : List Window → List Piece → Type 0
 AllGranted windows [] = Unit {0}
 AllGranted windows (c ∷ cs) = GrantedAt (judgedOf windows c) × AllGranted windows cs
 
--- and none takes a total past the largest
+-- none takes a total past the largest, and each finds a number
 unfoldable pub AllFit : Dialect → Totals → List Piece → Type 0
 AllFit dialect t [] = Unit {0}
-AllFit dialect t (c ∷ cs) = (passes dialect t (writeOf c) ≡ false) × AllFit dialect (wrote dialect t (writeOf c)) cs
+AllFit dialect t (c ∷ cs) = Room dialect t (writeOf c) × AllFit dialect (wrote dialect t (writeOf c)) cs
 
 -- two lists of them
 pub sendable-append : (bs cs : List Piece) → AllSendable (bs ++ cs) → AllSendable bs × AllSendable cs
@@ -84,14 +84,14 @@ lastGiven windows [] p = 0
 lastGiven windows (c ∷ cs) p = pick (someWrites windows cs p) (lastGiven windows cs p) (becomes (effectOf windows c) p)
 
 -- choices one inside the other
-pick-inside : (w s : Bool) (given became was : ℕ) → pick s given (pick w became was) ≡ pick (w || s) (pick s given became) was
+pub pick-inside : (w s : Bool) (given became was : ℕ) → pick s given (pick w became was) ≡ pick (w || s) (pick s given became) was
 unfolding pick
 pick-inside true true given became was = refl
 pick-inside true false given became was = refl
 pick-inside false true given became was = refl
 pick-inside false false given became was = refl
 
-pick-over : (w s : Bool) (given became was : ℕ) → (w ≡ true → s ≡ true) → pick s given (pick w became was) ≡ pick s given was
+pub pick-over : (w s : Bool) (given became was : ℕ) → (w ≡ true → s ≡ true) → pick s given (pick w became was) ≡ pick s given was
 unfolding pick
 pick-over w true given became was covers = refl
 pick-over false false given became was covers = refl
@@ -99,7 +99,7 @@ pick-over true false given became was covers = absurd (false≢true (covers refl
 
 module _ (windows : List Window) where
   -- a granted command does its effect
-  piece-does : (m : List ℕ) → length m ≡ sumOf windows → (c : Piece) → Sendable c → GrantedAt (judgedOf windows c)
+  pub piece-does : (m : List ℕ) → length m ≡ sumOf windows → (c : Piece) → Sendable c → GrantedAt (judgedOf windows c)
       → Does (effectOf windows c) m (memoryOf windows c m)
   unfolding effectOf
   piece-does m lent (load address size contents) sendable g =

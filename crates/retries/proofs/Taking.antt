@@ -27,12 +27,14 @@ use Rattle.script.specs.declared.Found.the-variants.{Known}
 use Rattle.script.specs.declared.Mode.the-variants.{Sent}
 use Rattle.script.specs.declared.Refusal.the-variants as refusal
 use Rattle.totals.specs.Attempts.{Write, section, setting as noSection, wrote}
-use Rattle.totals.specs.Totals.{wouldPass, settled, turned}
+use Rattle.totals.specs.Totals.{wouldPass, isSpent, settled, turned}
 use Rattle.totals.specs.declared.Totals.{Totals}
 use Rattle.commands.specs.Commands.{loadJudged, fillJudged, settingJudged, loaded, loadFed, fillDone, fillMemory, settingDone, settingMemory, memoryIf}
 use Rattle.commands.proofs.Judging.{unbarred}
 use Rattle.commands.specs.declared.Judged.{Judged}
 use Rattle.commands.specs.declared.Judged.the-variants.{Granted}
+use Rattle.commands.specs.Wrote.{bytesWrote, settingWrote}
+use Rattle.commands.specs.declared.Wrote.{Wrote}
 use Rattle.sent.specs.Bus.{unitsInWord, startUnit, unitsOf, allUnits, firstUnit}
 use Rattle.sent.specs.Feeding.{State, Heard, NoneRefused}
 use Rattle.sent.specs.Lift.{atWord, silent, Ready}
@@ -49,7 +51,7 @@ use Rattle.sent.specs.declared.Reply.{Reply}
 use Rattle.sent.specs.declared.Tally.{Tally}
 use Rattle.sent.proofs.ByTheTable.{by-the-table, word-kept, word-last, opcode-asks}
 use Rattle.sent.proofs.Feeding.{none-refused-append, Goes, nothing-goes, _then_, reaching, words-go}
-use Rattle.sent.proofs.Laws.{data-length, data-step, load-in-pieces}
+use Rattle.sent.proofs.Laws.{unwritten, same-words, data-length, data-step, load-in-pieces}
 use Rattle.sent.proofs.Lift.{accepted-goes, word-accepted}
 use Rattle.retries.specs.Pieces.{Piece, load, fill, setting, wordsOf, bytesLoaded, AreWords, Sendable, judgedOf, loadOpcode, fillOpcode, settingOpcode, enableOpcode, requestOpcode, startOverOpcode}
 
@@ -63,8 +65,8 @@ abbrev pub awaiting : List Window → Dialect → Bool → Bool → Tally → Li
 awaiting windows dialect on begun tally m = atWord (running windows dialect on begun tally phase.Opcode) m
 
 -- an accepted word's outcome
-abbrev pub accepted : Reply → Event → Core → List ℕ → Outcome
-accepted reply event k m = record { answer = record { refusal = refusal.None; reply = reply; event = event; core = k }; memory = m }
+abbrev pub accepted : Reply → Event → Core → Wrote → List ℕ → Outcome
+accepted reply event k wrote m = record { answer = record { refusal = refusal.None; reply = reply; event = event; core = k; wrote = wrote }; memory = m }
 
 -- what is heard of an accepted word
 abbrev pub heardSaid : Bus → Reply → Event → List Heard
@@ -100,10 +102,10 @@ writeOf (load address size contents) = section size
 writeOf (fill address size kind pattern) = section size
 writeOf (setting word address value delay) = noSection
 
--- would a section take a total past the largest?
-abbrev pub passes : Dialect → Totals → Write → Bool
-passes dialect t (section size) = wouldPass dialect (settled t) size
-passes dialect t noSection = false
+-- a section takes no total past the largest, and each command finds a number
+abbrev pub Room : Dialect → Totals → Write → Type 0
+Room dialect t (section size) = (wouldPass dialect (settled t) size ≡ false) × (isSpent (settled t) ≡ false)
+Room dialect t noSection = isSpent (settled t) ≡ false
 
 -- register and totals after a command
 abbrev pub tallyOf : Dialect → Bool → Piece → Tally → Tally
@@ -171,13 +173,13 @@ no-start : (bus : Bus) {opcode : ℕ} → Apart opcode → firstUnit bus opcode 
 no-start Bytes apart = eqb-false _ _ (apart .no-byte)
 no-start Halves apart = eqb-false _ _ (apart .no-half)
 
-length-loaded : (m : List ℕ) (place : ℕ) (bs : List ℕ) → length (loaded m place bs) ≡ length m
+pub length-loaded : (m : List ℕ) (place : ℕ) (bs : List ℕ) → length (loaded m place bs) ≡ length m
 unfolding loaded
 length-loaded m place bs = length-put m place (length bs) _
 
 module _ (bus : Bus) where
   -- a word of a session that has begun
-  begun-ready : (k : Core) (m : List ℕ) (w : ℕ) → k .ended ≡ false → k .begun ≡ true → length m ≡ sumOf (k .windows) → w < 2 ^ 32 → Ready bus k m w
+  pub begun-ready : (k : Core) (m : List ℕ) (w : ℕ) → k .ended ≡ false → k .begun ≡ true → length m ≡ sumOf (k .windows) → w < 2 ^ 32 → Ready bus k m w
   begun-ready k m w runs since lent small = record { running = runs; lent = lent; small = small; plain = λ e. absurd (true≢false (sym since ∙ e)) }
 
   -- the data of a load: word by word, each in silence
@@ -196,8 +198,10 @@ module _ (bus : Bus) where
       (heardSaid bus silence Nothing ++ heardQuiet bus ws))
       (sym step)
       (accepted-goes bus k m w (begun-ready k m w runs since lent (small .0)) step refl
-      then data-go ws _ _ (p + length (dataBytes w n)) (n - 4) runs since (length-loaded m p (dataBytes w n) ∙ lent) (small .1)
+      then reaching
+      (data-go ws _ _ (p + length (dataBytes w n)) (n - 4) runs since (length-loaded m p (dataBytes w n) ∙ lent) (small .1)
       (ap (λ (e : ℕ). awaited e (n - 4)) end) (omega arith))
+      (sym (ap (λ (o : Outcome). atWord (o .answer .core) (o .memory)) (same-words _ _ _ ws))))
 
 module _ (bus : Bus) (windows : List Window) (dialect : Dialect) (on : Bool) where
   module _ (c : Command) (tally : Tally) (m : List ℕ) (lent : length m ≡ sumOf windows) where
@@ -206,8 +210,8 @@ module _ (bus : Bus) (windows : List Window) (dialect : Dialect) (on : Bool) whe
     core = running windows dialect on true tally phase.Opcode
 
     -- the argument words that are left
-    arguments-go : (kept : Kept) (word : ℕ) (rest : List ℕ) → AreWords (word ∷ rest) → {reply : Reply} {event : Event} {k : Core} {left : List ℕ}
-        → doneAtLast c core m kept word rest ≡ accepted reply event k left
+    arguments-go : (kept : Kept) (word : ℕ) (rest : List ℕ) → AreWords (word ∷ rest) → {reply : Reply} {event : Event} {k : Core} {wrote : Wrote} {left : List ℕ}
+        → doneAtLast c core m kept word rest ≡ accepted reply event k wrote left
         → Goes bus (atWord (asking core c (suc (length rest)) kept) m) (allUnits bus (word ∷ rest)) (atWord k left) (heardThen bus rest reply event)
     unfolding doneAtLast heardThen
     arguments-go kept word [] small e =
@@ -238,12 +242,12 @@ module _ (bus : Bus) (windows : List Window) (dialect : Dialect) (on : Bool) whe
     taken c = running windows dialect on true (turnedBy c) phase.Opcode
 
     -- an opcode, begun or not
-    opcode-ready : (opcode : ℕ) → Apart opcode → Ready bus (running windows dialect on begun tally phase.Opcode) m opcode
+    pub opcode-ready : (opcode : ℕ) → Apart opcode → Ready bus (running windows dialect on begun tally phase.Opcode) m opcode
     opcode-ready opcode apart = record { running = refl; lent = lent; small = apart .small; plain = λ e. no-start bus apart }
 
     -- one that has no words
-    pub opcode-goes : (opcode : ℕ) (c : Command) → Apart opcode → lookedUp opcode Sent dialect ≡ Known c 0 → {reply : Reply} {event : Event} {k : Core} {left : List ℕ}
-        → opening opcode (performed c (taken c) m noneKept 0) ≡ accepted reply event k left
+    pub opcode-goes : (opcode : ℕ) (c : Command) → Apart opcode → lookedUp opcode Sent dialect ≡ Known c 0 → {reply : Reply} {event : Event} {k : Core} {wrote : Wrote} {left : List ℕ}
+        → opening opcode (performed c (taken c) m noneKept 0) ≡ accepted reply event k wrote left
         → Goes bus (awaiting windows dialect on begun tally m) (unitsOf bus opcode) (atWord k left) (heardSaid bus reply event)
     unfolding afterWords
     opcode-goes opcode c apart known e =
@@ -257,8 +261,8 @@ module _ (bus : Bus) (windows : List Window) (dialect : Dialect) (on : Bool) whe
           (heardSaid bus (oneWord (acknowledged opcode)) Nothing)
       asked-goes = accepted-goes bus _ m opcode (opcode-ready opcode apart) (opcode-asks _ m opcode (length rest) refl known) refl
 
-      command-goes : {reply : Reply} {event : Event} {k : Core} {left : List ℕ}
-          → doneAtLast c (taken c) m noneKept word rest ≡ accepted reply event k left
+      command-goes : {reply : Reply} {event : Event} {k : Core} {wrote : Wrote} {left : List ℕ}
+          → doneAtLast c (taken c) m noneKept word rest ≡ accepted reply event k wrote left
           → Goes bus (awaiting windows dialect on begun tally m) (allUnits bus (opcode ∷ word ∷ rest)) (atWord k left)
           (heardSaid bus (oneWord (acknowledged opcode)) Nothing ++ heardThen bus rest reply event)
       command-goes e = asked-goes then arguments-go c (turnedBy c) m lent noneKept word rest small e
@@ -308,24 +312,24 @@ module _ (bus : Bus) (windows : List Window) (dialect : Dialect) (on : Bool) whe
       load-lands contents whole =
           let k = asking (taken command.Load) command.Load 1 (keeping noneKept address) in
           ap (λ (o : Outcome). atWord (o .answer .core) (o .memory))
-          (sym (ap (λ (j : Judged). afterWords (loadBegun k address size j leaving m) contents) granted)
+          (sym (ap (λ (j : Judged). unwritten (afterWords (loadBegun k address size j leaving m) contents)) granted)
           ∙ load-in-pieces k m (keeping noneKept address) size place contents granted whole)
 
-    -- a granted command that takes no total past the largest
-    pub piece-goes : (c : Piece) → Sendable c → {place : ℕ} → judgedOf windows c ≡ Granted place → passes dialect (tally .totals) (writeOf c) ≡ false
+    -- a granted command that takes no total past the largest and finds a number
+    pub piece-goes : (c : Piece) → Sendable c → {place : ℕ} → judgedOf windows c ≡ Granted place → Room dialect (tally .totals) (writeOf c)
         → Goes bus (awaiting windows dialect on begun tally m) (allUnits bus (wordsOf c))
         (awaiting windows dialect on true (tallyOf dialect on c tally) (memoryOf windows c m)) (heardOf bus c)
     unfolding pick doneAtLast after fillDone fillMemory settingDone settingMemory
     piece-goes (load address size contents) sendable {place} granted fits =
-        let judged : counting (taken command.Load) size (loadJudged windows address size) ≡ Granted place = unbarred _ _ _ fits ∙ granted in
+        let judged : counting (taken command.Load) size (loadJudged windows address size) ≡ Granted place = unbarred _ _ _ (fits .1) ∙ unbarred _ _ _ (fits .0) ∙ granted in
         rw granted
         (words-go (loadOpcode ∷ address ∷ size ∷ []) contents (load-begins address size place judged (sendable .0 .1 .0) (sendable .0 .1 .1 .0))
         (reaching
         (data-go bus contents (loading address size place judged) m place size refl refl lent (sendable .0 .1 .1 .1) refl (sendable .1))
         (load-lands address size place judged contents (sendable .1))))
-    piece-goes (fill address size kind pattern) sendable granted fits =
+    piece-goes (fill address size kind pattern) sendable {place} granted fits =
         command-goes fillOpcode command.Fill address (size ∷ kind ∷ pattern ∷ []) fill-apart (fill-row dialect)
-        (sendable .0 .1) (rw (granted, fits) refl)
-    piece-goes (setting word address value delay) sendable granted fits =
+        (sendable .0 .1) {wrote = bytesWrote (Granted place) size (settled (tally .totals) .next)} (rw (granted, fits .0, fits .1) refl)
+    piece-goes (setting word address value delay) sendable {place} granted fits =
         command-goes settingOpcode command.BootTable word (address ∷ value ∷ delay ∷ []) setting-apart (setting-row dialect)
-        (sendable .0 .1) (rw granted refl)
+        (sendable .0 .1) {wrote = settingWrote (Granted place) word (settled (tally .totals) .next)} (rw (granted, fits) refl)

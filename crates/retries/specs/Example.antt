@@ -1,7 +1,7 @@
 -- A worked instance on either line: two fields of one word and a load, tried, asked about and abandoned, then sent again with other data; and
 -- counterexamples on the line of bytes.
 use Prim.Native.Nat.{ℕ}
-use mathlib.Core.Bool.{true, false}
+use mathlib.Core.Bool.{Bool, true, false}
 use mathlib.Core.List.{List, [], _∷_, _++_}
 use mathlib.Core.Path.{_≡_}
 use lib.ListN.{replicate}
@@ -29,13 +29,20 @@ windows = record { first = 0x80000000; length = 8; rights = 7 } ∷ replicate 7 
 abbrev pub before : List ℕ
 before = 0x7F ∷ 0 ∷ 0 ∷ 0 ∷ 0xAA ∷ 0xAA ∷ 0xAA ∷ 0xAA ∷ []
 
--- a session on them, opened and started
-unfoldable pub started : Bus → Dialect → State
-started bus dialect = sinceOpening bus dialect 1 windows before (startUnit bus ∷ [])
+-- a session on them, opened and started; it numbers its commands, or does not
+unfoldable pub startedTo : Bool → Bus → Dialect → State
+startedTo numbers bus dialect = sinceOpening numbers bus dialect 1 windows before (startUnit bus ∷ [])
 
 -- with the checksum on
-unfoldable pub start : Bus → Dialect → State
-start bus dialect = sinceOpening bus dialect 1 windows before (startUnit bus ∷ unitsOf bus enableOpcode)
+unfoldable pub startTo : Bool → Bus → Dialect → State
+startTo numbers bus dialect = sinceOpening numbers bus dialect 1 windows before (startUnit bus ∷ unitsOf bus enableOpcode)
+
+-- those that number
+abbrev pub started : Bus → Dialect → State
+started bus dialect = startedTo true bus dialect
+
+abbrev pub start : Bus → Dialect → State
+start bus dialect = startTo true bus dialect
 
 -- a field of the first word, bits 8 to 11 of it, and three bytes from the second word on; the top byte of their word is a pad byte
 abbrev pub sent : ℕ → ℕ → ℕ → ℕ → List Piece
@@ -53,7 +60,8 @@ abbrev pub oneLoad : Dialect → Standing
 oneLoad Am17xx = zero
 oneLoad Dm648 = standing 1 3
 
--- the premises are met, from the opening on; the attempt changes memory; after the repeat nothing is left of it, and one load is counted
+-- the premises are met, from the opening on; the attempt changes memory; after the repeat nothing is left of it, one load is counted, and the next command is
+-- the fourth
 pub record Worked (bus : Bus) (dialect : Dialect) : Type 0 where
   pub just-after : JustAfter bus (start bus dialect)
   pub retried : Retried bus (start bus dialect) (attemptWords abandoned) (abandoned .pieces) repeated
@@ -63,6 +71,7 @@ pub record Worked (bus : Bus) (dialect : Dialect) : Type 0 where
       ≡ 0x1F ∷ 0x02 ∷ 0 ∷ 0 ∷ 0x11 ∷ 0x22 ∷ 0x33 ∷ 0xAA ∷ []
   pub never-tried : after bus (start bus dialect) (allWords repeated) .memory ≡ 0x1F ∷ 0x02 ∷ 0 ∷ 0 ∷ 0x11 ∷ 0x22 ∷ 0x33 ∷ 0xAA ∷ []
   pub counted : totals (after bus (start bus dialect) (attemptWords abandoned ++ allWords repeated)) .now ≡ oneLoad dialect
+  pub numbered : totals (after bus (start bus dialect) (attemptWords abandoned ++ allWords repeated)) .next ≡ 4
 
 -- what follows misses bit 6 of the attempt's first field, and all else is met: the bit stays
 abbrev pub missing : List Piece
@@ -73,9 +82,9 @@ pub record OneBitMissed : Type 0 where
   pub accepted : Accepted Bytes (start Bytes Am17xx) (attemptWords abandoned) (abandoned .pieces) missing
   pub trace : NoTrace Bytes (start Bytes Am17xx) (attemptWords abandoned) (allWords missing) → ⊥
 
--- an attempt begins after a load, so that the register is not 0, and all else is met (in AM17xx, where the totals are level): Start-Over takes the load back from the checksum
+-- an attempt begins after a load, so that the register is not 0, and all else is met (in AM17xx with no numbers kept, where the totals are level): Start-Over takes the load back from the checksum
 unfoldable pub middle : State
-middle = after Bytes (start Bytes Am17xx) (wordsOf (load 0x80000004 3 (0xEE030201 ∷ [])))
+middle = after Bytes (startTo false Bytes Am17xx) (wordsOf (load 0x80000004 3 (0xEE030201 ∷ [])))
 
 abbrev pub nothing : Attempt
 nothing = record { pieces = []; asked = false }
@@ -89,7 +98,7 @@ pub record InTheMiddle : Type 0 where
 
 -- a Start-Over alone directly after a Request, and all else is met: it takes the load before that Request back from the totals
 unfoldable pub requested : State
-requested = after Bytes (start Bytes Dm648) (wordsOf (load 0x80000004 3 (0xEE030201 ∷ [])) ++ (requestOpcode ∷ []))
+requested = after Bytes (startTo false Bytes Dm648) (wordsOf (load 0x80000004 3 (0xEE030201 ∷ [])) ++ (requestOpcode ∷ []))
 
 pub record StartOverAlone : Type 0 where
   pub begins : Begins requested
@@ -97,9 +106,9 @@ pub record StartOverAlone : Type 0 where
   pub covered : Covers windows [] repeated
   pub trace : NoTrace Bytes requested (attemptWords nothing) (allWords repeated) → ⊥
 
--- an attempt begins after a load with the checksum off, so that the totals are not the mark, and all else is met: Start-Over takes the load back from them
+-- an attempt begins after a load with the checksum off, so that the totals are not the mark, no numbers are kept, and all else is met: Start-Over takes the load back from them
 unfoldable pub unmarked : State
-unmarked = after Bytes (started Bytes Dm648) (wordsOf (load 0x80000004 3 (0xEE030201 ∷ [])))
+unmarked = after Bytes (startedTo false Bytes Dm648) (wordsOf (load 0x80000004 3 (0xEE030201 ∷ [])))
 
 pub record NotLevel : Type 0 where
   pub awaits : Awaits unmarked
@@ -108,6 +117,20 @@ pub record NotLevel : Type 0 where
   pub accepted : Accepted Bytes unmarked (attemptWords nothing) [] repeated
   pub covered : Covers windows [] repeated
   pub trace : NoTrace Bytes unmarked (attemptWords nothing) (allWords repeated) → ⊥
+
+-- an attempt begins after a setting with the checksum off, in AM17xx, so that the totals are the mark and the next number alone is not, and all else is met:
+-- Start-Over takes the setting's number back
+unfoldable pub setOnce : State
+setOnce = after Bytes (startedTo true Bytes Am17xx) (wordsOf (setting 0x00060403 0x80000000 2 0))
+
+pub record NumberNotLevel : Type 0 where
+  pub awaits : Awaits setOnce
+  pub rewound : register setOnce ≡ 0
+  pub settled : totals setOnce .asked ≡ false
+  pub marked : totals setOnce .now ≡ totals setOnce .mark
+  pub accepted : Accepted Bytes setOnce (attemptWords nothing) [] repeated
+  pub covered : Covers windows [] repeated
+  pub trace : NoTrace Bytes setOnce (attemptWords nothing) (allWords repeated) → ⊥
 
 -- nothing follows an attempt that begins at the start unit: that an opcode has been acknowledged is a trace
 pub record NothingFollows : Type 0 where
@@ -121,7 +144,7 @@ abbrev pub shorter : List ℕ
 shorter = 0x7F ∷ 0 ∷ 0 ∷ 0 ∷ 0xAA ∷ 0xAA ∷ 0xAA ∷ []
 
 unfoldable pub short : State
-short = sinceOpening Bytes Am17xx 1 windows shorter []
+short = sinceOpening true Bytes Am17xx 1 windows shorter []
 
 pub record MemoryTooShort : Type 0 where
   pub reached : Reached Bytes short

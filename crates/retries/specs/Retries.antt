@@ -11,13 +11,13 @@ use Rattle.windows.specs.Window.{sumOf}
 use Rattle.windows.specs.declared.Window.{Window}
 use Rattle.script.specs.declared.Dialect.{Dialect}
 use Rattle.totals.specs.Attempts.{Level}
-use Rattle.totals.specs.Totals.{atOpening}
 use Rattle.sent.specs.Bus.{unitsInWord, startUnit, unitsOf, allUnits}
 use Rattle.sent.specs.Feeding.{State, Heard, AreBytes, register, totals, next, heard, fed, answers, NoneRefused}
-use Rattle.sent.specs.Machine.{tallied}
-use Rattle.sent.specs.Opening.{openedBy}
+use Rattle.sent.specs.Opening.{openedBy, numberingFrom}
 use Rattle.sent.specs.Replies.{startAnswer, silence, oneWord, wordThen, acknowledged}
 use Rattle.sent.specs.declared.Bus.{Bus}
+use Rattle.sent.specs.declared.Core.{Core}
+use Rattle.sent.specs.declared.Opened.{Opened}
 use Rattle.sent.specs.declared.Phase.the-variants.{Opcode}
 use Rattle.retries.specs.Pieces.{Piece, allWords, AllSendable, Covers, enableOpcode, requestOpcode, startOverOpcode}
 
@@ -40,27 +40,33 @@ pub record Begins (x : State) : Type 0 where
   pub rewound : register x ≡ 0
   pub level : Level (totals x)
 
+-- an opening, of a session that numbers its commands or of one that does not
+abbrev pub openedTo : Bool → Bus → Dialect → ℕ → List Window → Opened
+openedTo numbers bus dialect count windows = pick numbers (numberingFrom (openedBy bus dialect count windows)) (openedBy bus dialect count windows)
+
 -- a session after its opening and some units
-abbrev pub sinceOpening : Bus → Dialect → ℕ → List Window → List ℕ → List ℕ → State
-sinceOpening bus dialect count windows memory units = fed bus (record { session = openedBy bus dialect count windows .session; memory = memory }) units
+abbrev pub sinceOpening : Bool → Bus → Dialect → ℕ → List Window → List ℕ → List ℕ → State
+sinceOpening numbers bus dialect count windows memory units =
+    fed bus (record { session = openedTo numbers bus dialect count windows .session; memory = memory }) units
 
 -- a session that an opening leads to, lent memory of bytes, whatever is sent
 pub record Reached (bus : Bus) (x : State) : Type 0 where
+  pub numbers : Bool
   pub dialect : Dialect
   pub count : ℕ
   pub windows : List Window
   pub memory : List ℕ
   pub sent : List ℕ
   pub bytes : AreBytes memory
-  pub leads : sinceOpening bus dialect count windows memory sent ≡ x
+  pub leads : sinceOpening numbers bus dialect count windows memory sent ≡ x
 
--- the windows that its opening kept
-abbrev pub opened : {bus : Bus} {x : State} → Reached bus x → List Window
-opened {bus} r = openedBy bus (r .dialect) (r .count) (r .windows) .session .core .windows
+-- the core that its opening gave
+abbrev pub opened : {bus : Bus} {x : State} → Reached bus x → Core
+opened {bus} r = openedTo (r .numbers) bus (r .dialect) (r .count) (r .windows) .session .core
 
 -- the memory lent to it has the length of its map
 abbrev pub Whole : {bus : Bus} {x : State} → Reached bus x → Type 0
-Whole r = length (r .memory) ≡ sumOf (opened r)
+Whole r = length (r .memory) ≡ sumOf (opened r .windows)
 
 -- what is seen of a session that awaits an opcode: it runs, has been started and has nothing gathered
 pub record Idle (x : State) : Type 0 where
@@ -75,15 +81,15 @@ pub record AtStart (x : State) : Type 0 where
   pub before : x .session .core .begun ≡ false
   pub fresh : x .session .line .have ≡ 0
 
--- what units keep, from an opening that kept these windows and was lent memory of this size
-pub record Sound (windows : List Window) (size : ℕ) (x : State) : Type 0 where
-  pub same-windows : x .session .core .windows ≡ windows
+-- what units keep, from an opening that gave this core and was lent memory of this size
+pub record Sound (first : Core) (size : ℕ) (x : State) : Type 0 where
+  pub same-windows : x .session .core .windows ≡ first .windows
   pub same-length : length (x .memory) ≡ size
   pub bytes : AreBytes (x .memory)
   pub gathered : x .session .line .have ≡ 0 → x .session .line .word ≡ 0
   pub unstarted : x .session .line .started ≡ false → (x .session .line .have ≡ 0) × (x .session .core .begun ≡ false)
-  pub started : x .session .line .started ≡ true → size ≡ sumOf windows
-  pub unbegun : x .session .core .begun ≡ false → (x .session .core .tally ≡ tallied 0 atOpening) × (x .session .core .stage .phase ≡ Opcode)
+  pub started : x .session .line .started ≡ true → size ≡ sumOf (first .windows)
+  pub unbegun : x .session .core .begun ≡ false → (x .session .core .tally ≡ first .tally) × (x .session .core .stage .phase ≡ Opcode)
 
 -- just after the answered start unit, or after an Enable, a Request or a Start-Over that was taken as an opcode
 pub data JustAfter (bus : Bus) : State → Type 0 where
@@ -140,7 +146,7 @@ Reports bus x number =
     map (λ (h : Heard). h .reply) (answers bus x (unitsOf bus requestOpcode))
     ≡ replicate (unitsInWord bus - 1) silence ++ (wordThen (acknowledged requestOpcode) (oneWord number) ∷ [])
 
--- some words leave no trace once others follow: memory, register, totals and the whole session are those of the others alone, and so is every answer from
+-- some words leave no trace once others follow: memory, register, totals, next number and the whole session are those of the others alone, and so is every answer from
 -- there on, also to any further units; a Request that comes next reports that register
 pub record NoTrace (bus : Bus) (x : State) (attempt following : List ℕ) : Type 0 where
   pub same-state : after bus x (attempt ++ following) ≡ after bus x following

@@ -5,7 +5,7 @@ use flash::Called;
 use flash::Session;
 
 // Does the session go on after a call?
-fn goes_on(called: Called) -> bool
+pub fn goes_on(called: Called) -> bool
     ensures { λ r. ⌜ r ≡ goesOn called ⌝ }
 {
     let refusal = called.refusal;

@@ -29,6 +29,8 @@ numberOf refusal.Call = 19
 numberOf refusal.Length = 21
 numberOf refusal.Digit = 22
 numberOf refusal.Room = 23
+numberOf refusal.Chosen = 24
+numberOf refusal.Number = 25
 
 -- an event's kind: 0 nothing, 1 wait, 3 enter an address; 2 was a call, and stays unused
 abbrev pub kindOf : Event → ℕ

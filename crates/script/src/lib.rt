@@ -28,6 +28,8 @@ pub enum Refusal {
     Length,
     Digit,
     Room,
+    Chosen,
+    Number,
 }
 
 impl Refusal {
@@ -58,6 +60,8 @@ impl Refusal {
             Refusal::Length => 21,
             Refusal::Digit => 22,
             Refusal::Room => 23,
+            Refusal::Chosen => 24,
+            Refusal::Number => 25,
         }
     }
 }

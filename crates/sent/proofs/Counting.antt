@@ -27,23 +27,24 @@ use Rattle.script.specs.declared.Mode.the-variants.{Sent}
 use Rattle.script.specs.declared.Refusal.{Refusal}
 use Rattle.script.specs.declared.Refusal.the-variants as refusal
 use Rattle.script.proofs.Counts.{rowIs, row-is}
-use Rattle.totals.specs.Agreement.{plus, Zero}
-use Rattle.totals.specs.Totals.{standing, atOpening, differs, counted, turned}
+use Rattle.totals.specs.Agreement.{Zero, plus}
+use Rattle.totals.specs.Totals.{standing, atOpening, numberedAs, differs, counted, numbered, turned}
 use Rattle.totals.specs.declared.Standing.{Standing}
 use Rattle.totals.specs.declared.Totals.{Totals}
 use Rattle.totals.proofs.Agreement.{stays-zero}
-use Rattle.totals.proofs.Laws.{settled-now, names-them, plus-none, plus-more, plus-one}
+use Rattle.totals.proofs.Laws.{settled-now, turned-numbers, names-them, plus-none, plus-more, plus-one}
 use Rattle.commands.specs.Commands.{doneIf, loadJudged, fillJudged, fillDone, settingJudged, settingDone, entryJudged, closeDone}
 use Rattle.commands.specs.declared.Done.{Done}
 use Rattle.commands.specs.declared.Judged.{Judged}
 use Rattle.commands.specs.declared.Judged.the-variants.{Granted, Refused}
+use Rattle.commands.specs.declared.Wrote.{Wrote}
 use Rattle.commands.proofs.Judging.{granted-before, load-passes, fill-passes}
 use Rattle.sent.specs.Bus.{unitsInWord, startUnit, pushed}
 use Rattle.sent.specs.Counting.{sizeOf, keptBefore, sizesAt, NoRetry, sizesOf, withTotals, ButTotals, Entering, Totalled}
 use Rattle.sent.specs.Feeding.{State, totals, next, fed, answers}
 use Rattle.sent.specs.Line as line
-use Rattle.sent.specs.Line.{plainly, carried, isStart, unitStep}
-use Rattle.sent.specs.Machine.{Outcome, tallied, quiet, _leaving_, noneKept, countedOn, after, entered, counting, loadBegun, closeAddress, closeJudged, performed, toward, begun, acknowledging, opening, atOpcode, inPhase, wordStep}
+use Rattle.sent.specs.Line.{plainly, gathered, carried, isStart, unitStep}
+use Rattle.sent.specs.Machine.{Outcome, tallied, quiet, writing, _leaving_, noneKept, countedOn, after, entered, numbering, counting, loadBegun, closeAddress, closeJudged, performed, toward, begun, acknowledging, opening, atOpcode, inPhase, wordStep}
 use Rattle.sent.specs.Replies.{oneWord, farewell}
 use Rattle.sent.specs.Words.{afterWords}
 use Rattle.sent.specs.declared.Bus.{Bus}
@@ -53,9 +54,10 @@ use Rattle.sent.specs.declared.Line.{Line}
 use Rattle.sent.specs.declared.Phase.{Phase}
 use Rattle.sent.specs.declared.Phase.the-variants as phase
 use Rattle.sent.specs.declared.Reply.{Reply}
+use Rattle.sent.specs.declared.Session.{Session}
 use Rattle.sent.specs.declared.Taken.{Taken}
 use Rattle.sent.proofs.Every.{every-word}
-use Rattle.sent.proofs.Granted.{GrantedAt, numbers, section-numbered, load-not-refused, done-not-refused}
+use Rattle.sent.proofs.Granted.{GrantedAt, numbers, section-numbered, section-counts, load-not-refused, done-not-refused}
 
 -- what stands after a word
 abbrev nowOf : Outcome → Standing
@@ -123,12 +125,13 @@ no-wait : {delay entry : ℕ} → event.Wait delay ≡ event.Enter entry → ⊥
 no-wait e = let z : _≡_ {A = ℕ} 0 1 = cc in omega arith
 
 -- an AM17xx counts nothing
-not-counted : (k : Core) (size : ℕ) → k .dialect ≡ Am17xx → countedOn k size ≡ k .tally .totals
-not-counted k size am = ap (λ (d : Dialect). counted d (k .tally .totals) size) am
+zero-counted : (k : Core) (size : ℕ) → k .dialect ≡ Am17xx → Zero (k .tally .totals) → Zero (countedOn k size)
+zero-counted k size am zero = subst (λ (d : Dialect). Zero (numbered (counted d (k .tally .totals) size))) (sym am) zero
 
-load-same : (k : Core) (address size : ℕ) (judged : Judged) → k .dialect ≡ Am17xx → loadBegun k address size judged .core .tally .totals ≡ k .tally .totals
-load-same k address size (Granted place) am = not-counted k size am
-load-same k address size (Refused q) am = refl
+load-zero : (k : Core) (address size : ℕ) (judged : Judged) → k .dialect ≡ Am17xx → Zero (k .tally .totals)
+    → Zero (loadBegun k address size judged .core .tally .totals)
+load-zero k address size (Granted place) am zero = zero-counted k size am zero
+load-zero k address size (Refused q) am zero = zero
 
 -- a command that was judged and done leaves the totals that it was given, or was refused
 after-totals : (P : Totals → Type 0) (k : Core) (t : Totals) (done : Done) → P t → P (k .tally .totals) → P (after k t done .core .tally .totals)
@@ -147,9 +150,9 @@ module _ (k : Core) (m : List ℕ) (dm : k .dialect ≡ Dm648) where
       → nowOf (performed command.Load k m kept word) ≡ plus now (word ∷ [])
   load-now kept word e =
       let judged : Judged = loadJudged (k .windows) (kept .third) word in
-      let g = load-not-refused k (kept .third) word (counting k word judged) (section-numbered _ judged (load-passes _ numbers (k .windows) (kept .third) word)) e in
+      let g = load-not-refused k (kept .third) word (counting k word judged) (section-numbered k word judged (load-passes _ numbers (k .windows) (kept .third) word)) e in
       ap (λ (j : Judged). loadBegun k (kept .third) word j .core .tally .totals .now) (g .granted)
-      ∙ plus-one (k .dialect) (k .tally .totals) word dm (granted-before _ refusal.Overflow judged (g .place) (g .granted) .0)
+      ∙ plus-one (k .dialect) (k .tally .totals) word dm (section-counts k word judged (g .place) (g .granted) .fits)
 
   fill-now : (kept : Kept) (word : ℕ) → performed command.Fill k m kept word .answer .refusal ≡ refusal.None
       → nowOf (performed command.Fill k m kept word) ≡ plus now (kept .second ∷ [])
@@ -158,12 +161,12 @@ module _ (k : Core) (m : List ℕ) (dm : k .dialect ≡ Dm648) where
       let judged : Judged = fillJudged (k .windows) (kept .first) (kept .second) (kept .third) in
       let g =
       done-not-refused k (countedOn k (kept .second)) (counting k (kept .second) judged) _ _ _
-      (section-numbered _ judged (fill-passes _ numbers (k .windows) (kept .first) (kept .second) (kept .third))) e in
+      (section-numbered k (kept .second) judged (fill-passes _ numbers (k .windows) (kept .first) (kept .second) (kept .third))) e in
       ap
       (λ (j : Judged). after k (countedOn k (kept .second)) (fillDone j (k .on) (k .tally .register) (kept .first) (kept .second) (kept .third) word) .core .tally
       .totals .now)
       (g .granted)
-      ∙ plus-one (k .dialect) (k .tally .totals) (kept .second) dm (granted-before _ refusal.Overflow judged (g .place) (g .granted) .0)
+      ∙ plus-one (k .dialect) (k .tally .totals) (kept .second) dm (section-counts k (kept .second) judged (g .place) (g .granted) .fits)
 
   performed-now : (c : Command) (kept : Kept) (word : ℕ) → performed c k m kept word .answer .refusal ≡ refusal.None
       → nowOf (performed c k m kept word) ≡ plus now (sizeOf c kept word)
@@ -248,8 +251,8 @@ closes command.Fill k m kept word entry e =
     let judged : Judged = counting k (kept .second) (fillJudged (k .windows) (kept .first) (kept .second) (kept .third)) in
     absurd (no-event refl (done-enters k (countedOn k (kept .second)) judged (k .tally .register) event.Nothing _ entry e .1))
 closes command.BootTable k m kept word entry e =
-    let judged : Judged = settingJudged (k .windows) (kept .first) (kept .second) (kept .third) in
-    absurd (no-wait (done-enters k (k .tally .totals) judged (k .tally .register) (event.Wait word) _ entry e .1))
+    let judged : Judged = numbering k (settingJudged (k .windows) (kept .first) (kept .second) (kept .third)) in
+    absurd (no-wait (done-enters k (numbered (k .tally .totals)) judged (k .tally .register) (event.Wait word) _ entry e .1))
 closes command.Enable k m kept word entry e = absurd (no-event refl e)
 closes command.Disable k m kept word entry e = absurd (no-event refl e)
 closes command.Request k m kept word entry e = absurd (no-event refl e)
@@ -321,35 +324,34 @@ word-enters k m word entry e =
     record { told = named .told; reply = named .reply }
 
 -- AM17xx: a command counts nothing
-performed-same : (c : Command) (k : Core) (m : List ℕ) (kept : Kept) (word : ℕ) → k .dialect ≡ Am17xx
-    → performed c k m kept word .answer .core .tally .totals ≡ k .tally .totals
-performed-same command.Load k m kept word am = load-same k (kept .third) word (counting k word (loadJudged (k .windows) (kept .third) word)) am
-performed-same command.Fill k m kept word am = after-totals (λ (t : Totals). t ≡ k .tally .totals) k _ _ (not-counted k (kept .second) am) refl
-performed-same command.BootTable k m kept word am = after-totals (λ (t : Totals). t ≡ k .tally .totals) k _ _ refl refl
-performed-same command.Enable k m kept word am = refl
-performed-same command.Disable k m kept word am = refl
-performed-same command.Request k m kept word am = refl
-performed-same command.StartOver k m kept word am = refl
-performed-same command.JumpAndClose k m kept word am = entered-totals _ ∙ after-totals (λ (t : Totals). t ≡ k .tally .totals) k _ _ refl refl
-performed-same command.Ping k m kept word am = refl
-performed-same command.SequentialRead k m kept word am = refl
+performed-zero : (c : Command) (k : Core) (m : List ℕ) (kept : Kept) (word : ℕ) → k .dialect ≡ Am17xx → Zero (k .tally .totals)
+    → Zero (performed c k m kept word .answer .core .tally .totals)
+performed-zero command.Load k m kept word am zero = load-zero k (kept .third) word (counting k word (loadJudged (k .windows) (kept .third) word)) am zero
+performed-zero command.Fill k m kept word am zero = after-totals Zero k _ _ (zero-counted k (kept .second) am zero) zero
+performed-zero command.BootTable k m kept word am zero = after-totals Zero k _ _ zero zero
+performed-zero command.Enable k m kept word am zero = zero
+performed-zero command.Disable k m kept word am zero = zero
+performed-zero command.Request k m kept word am zero = zero
+performed-zero command.StartOver k m kept word am zero = zero
+performed-zero command.JumpAndClose k m kept word am zero = subst Zero (sym (entered-totals _)) (after-totals Zero k _ _ zero zero)
+performed-zero command.Ping k m kept word am zero = zero
+performed-zero command.SequentialRead k m kept word am zero = zero
 
-toward-same : (c : Command) (left : ℕ) (k : Core) (m : List ℕ) (kept : Kept) (word : ℕ) → k .dialect ≡ Am17xx
-    → toward c left k m kept word .answer .core .tally .totals ≡ k .tally .totals
-toward-same c left k m kept word am =
-    of-choice (λ (o : Outcome). o .answer .core .tally .totals ≡ k .tally .totals) (eqb left 0) (λ h. performed-same c k m kept word am) (λ h. refl)
+toward-zero : (c : Command) (left : ℕ) (k : Core) (m : List ℕ) (kept : Kept) (word : ℕ) → k .dialect ≡ Am17xx → Zero (k .tally .totals)
+    → Zero (toward c left k m kept word .answer .core .tally .totals)
+toward-zero c left k m kept word am zero =
+    of-choice (λ (o : Outcome). Zero (o .answer .core .tally .totals)) (eqb left 0) (λ h. performed-zero c k m kept word am zero) (λ h. zero)
 
 opcode-zero : (k : Core) (m : List ℕ) (word : ℕ) (f : Found) → k .dialect ≡ Am17xx → Zero (k .tally .totals) → Zero (atOpcode k m word f .answer .core .tally .totals)
 opcode-zero k m word Unknown am zero = zero
 opcode-zero k m word Retired am zero = zero
 opcode-zero k m word (Known c words) am zero =
-    subst Zero
-    (sym (ap (λ (x : Core). x .tally .totals) (ack-core word _) ∙ toward-same c words (begun c k) m noneKept 0 am))
-    (stays-zero .turning (k .tally .totals) c zero)
+    subst Zero (sym (ap (λ (x : Core). x .tally .totals) (ack-core word _)))
+    (toward-zero c words (begun c k) m noneKept 0 am (stays-zero .turning (k .tally .totals) c zero))
 
 phase-zero : (p : Phase) (k : Core) (m : List ℕ) (word : ℕ) → k .dialect ≡ Am17xx → Zero (k .tally .totals) → Zero (inPhase p k m word .answer .core .tally .totals)
 phase-zero phase.Opcode k m word am zero = opcode-zero k m word (lookedUp word Sent (k .dialect)) am zero
-phase-zero (phase.Argument c left kept) k m word am zero = subst Zero (sym (toward-same c (left - 1) k m kept word am)) zero
+phase-zero (phase.Argument c left kept) k m word am zero = toward-zero c (left - 1) k m kept word am zero
 phase-zero (phase.Data end left) k m word am zero = zero
 phase-zero (phase.Echo n) k m word am zero = zero
 
@@ -393,7 +395,14 @@ having d k t =
     }
 
 abbrev bareTaken : Taken → Taken
-bareTaken t = record { refusal = t .refusal; reply = t .reply; event = t .event; core = having (t .core .dialect) (t .core) atOpening }
+bareTaken t =
+    record {
+      refusal = t .refusal;
+      reply = t .reply;
+      event = t .event;
+      core = having (t .core .dialect) (t .core) (numberedAs atOpening (t .core .tally .totals));
+      wrote = t .wrote;
+    }
 
 abbrev bare : Outcome → Outcome
 bare o = bareTaken (o .answer) leaving o .memory
@@ -416,46 +425,64 @@ entered-bare : (t : Taken) → bareTaken (entered t) ≡ entered (bareTaken t)
 unfolding entered
 entered-bare t = bare-choice (eqb (numberOf (t .refusal)) 0) _ t
 
-module _ (k : Core) (t u : Totals) where
-  after-alike : (done : Done) → bareTaken (after (having Am17xx k t) t done) ≡ bareTaken (after (having Am17xx k u) u done)
-  unfolding after
-  after-alike done = bare-choice (eqb (numberOf (done .refusal)) 0) _ _ ∙ sym (bare-choice (eqb (numberOf (done .refusal)) 0) _ _)
+-- two totals with the same numbers
+module _ (k : Core) (a b by : Totals) where
+  abbrev one : Core
+  one = having Am17xx k (numberedAs a by)
 
-  load-alike : (address size : ℕ) (judged : Judged)
-      → bareTaken (loadBegun (having Am17xx k t) address size judged) ≡ bareTaken (loadBegun (having Am17xx k u) address size judged)
+  abbrev two : Core
+  two = having Am17xx k (numberedAs b by)
+
+  after-alike : (v w last : Totals) (done : Done) → bareTaken (after one (numberedAs v last) done) ≡ bareTaken (after two (numberedAs w last) done)
+  unfolding after
+  after-alike v w last done = bare-choice (eqb (numberOf (done .refusal)) 0) _ _ ∙ sym (bare-choice (eqb (numberOf (done .refusal)) 0) _ _)
+
+  written-alike : (wrote : Wrote) (v w last : Totals) (done : Done)
+      → bareTaken (writing wrote (after one (numberedAs v last) done)) ≡ bareTaken (writing wrote (after two (numberedAs w last) done))
+  written-alike wrote v w last done = ap (writing wrote) (after-alike v w last done)
+
+  load-alike : (address size : ℕ) (judged : Judged) → bareTaken (loadBegun one address size judged) ≡ bareTaken (loadBegun two address size judged)
   load-alike address size (Granted place) = refl
   load-alike address size (Refused q) = refl
 
   module _ (m : List ℕ) (kept : Kept) (word : ℕ) where
-    performed-alike : (c : Command) → bare (performed c (having Am17xx k t) m kept word) ≡ bare (performed c (having Am17xx k u) m kept word)
-    performed-alike command.Load = ap (λ (x : Taken). x leaving m) (load-alike (kept .third) word (counting (having Am17xx k t) word (loadJudged (k .windows) (kept .third) word)))
-    performed-alike command.Fill = ap (λ (x : Taken). x leaving performed command.Fill (having Am17xx k t) m kept word .memory) (after-alike _)
-    performed-alike command.BootTable = ap (λ (x : Taken). x leaving performed command.BootTable (having Am17xx k t) m kept word .memory) (after-alike _)
+    performed-alike : (c : Command) → bare (performed c one m kept word) ≡ bare (performed c two m kept word)
+    performed-alike command.Load = ap (λ (x : Taken). x leaving m) (load-alike (kept .third) word (counting one word (loadJudged (k .windows) (kept .third) word)))
+    performed-alike command.Fill =
+        ap (λ (x : Taken). x leaving performed command.Fill one m kept word .memory) (written-alike _ a b (numbered by) _)
+    performed-alike command.BootTable =
+        ap (λ (x : Taken). x leaving performed command.BootTable one m kept word .memory) (written-alike _ a b (numbered by) _)
     performed-alike command.Enable = refl
     performed-alike command.Disable = refl
     performed-alike command.Request = refl
     performed-alike command.StartOver = refl
     performed-alike command.JumpAndClose =
-        ap (λ (x : Taken). x leaving m) (entered-bare _ ∙ ap entered (after-alike _) ∙ sym (entered-bare _))
+        ap (λ (x : Taken). x leaving m) (entered-bare _ ∙ ap entered (after-alike a b by _) ∙ sym (entered-bare _))
     performed-alike command.Ping = refl
     performed-alike command.SequentialRead = refl
 
-    toward-alike : (c : Command) (left : ℕ) → bare (toward c left (having Am17xx k t) m kept word) ≡ bare (toward c left (having Am17xx k u) m kept word)
+    toward-alike : (c : Command) (left : ℕ) → bare (toward c left one m kept word) ≡ bare (toward c left two m kept word)
     toward-alike c left = same-choice (eqb left 0) _ _ _ _ (performed-alike c) refl
 
-opcode-alike : (k : Core) (t u : Totals) (m : List ℕ) (word : ℕ) (f : Found) → bare (atOpcode (having Am17xx k t) m word f) ≡ bare (atOpcode (having Am17xx k u) m word f)
-opcode-alike k t u m word Unknown = refl
-opcode-alike k t u m word Retired = refl
-opcode-alike k t u m word (Known c words) =
-    opening-bare word (toward c words (begun c (having Am17xx k t)) m noneKept 0)
-    ∙ ap (opening word) (toward-alike (begun c k) (turned c t) (turned c u) m noneKept 0 c words)
-    ∙ sym (opening-bare word (toward c words (begun c (having Am17xx k u)) m noneKept 0))
+opcode-alike : (k : Core) (a b by : Totals) (m : List ℕ) (word : ℕ) (f : Found)
+    → bare (atOpcode (having Am17xx k (numberedAs a by)) m word f) ≡ bare (atOpcode (having Am17xx k (numberedAs b by)) m word f)
+opcode-alike k a b by m word Unknown = refl
+opcode-alike k a b by m word Retired = refl
+opcode-alike k a b by m word (Known c words) =
+    let Reached : Totals → Outcome = λ t. toward c words (having Am17xx (begun c k) t) m noneKept 0 in
+    opening-bare word (Reached (turned c (numberedAs a by)))
+    ∙ ap (opening word)
+    (ap (λ (t : Totals). bare (Reached t)) (turned-numbers c a by)
+    ∙ toward-alike (begun c k) (turned c (numberedAs a by)) (turned c (numberedAs b by)) (turned c by) m noneKept 0 c words
+    ∙ sym (ap (λ (t : Totals). bare (Reached t)) (turned-numbers c b by)))
+    ∙ sym (opening-bare word (Reached (turned c (numberedAs b by))))
 
-phase-alike : (p : Phase) (k : Core) (t u : Totals) (m : List ℕ) (word : ℕ) → bare (inPhase p (having Am17xx k t) m word) ≡ bare (inPhase p (having Am17xx k u) m word)
-phase-alike phase.Opcode k t u m word = opcode-alike k t u m word (lookedUp word Sent Am17xx)
-phase-alike (phase.Argument c left kept) k t u m word = toward-alike k t u m kept word c (left - 1)
-phase-alike (phase.Data end left) k t u m word = refl
-phase-alike (phase.Echo n) k t u m word = refl
+phase-alike : (p : Phase) (k : Core) (a b by : Totals) (m : List ℕ) (word : ℕ)
+    → bare (inPhase p (having Am17xx k (numberedAs a by)) m word) ≡ bare (inPhase p (having Am17xx k (numberedAs b by)) m word)
+phase-alike phase.Opcode k a b by m word = opcode-alike k a b by m word (lookedUp word Sent Am17xx)
+phase-alike (phase.Argument c left kept) k a b by m word = toward-alike k a b by m kept word c (left - 1)
+phase-alike (phase.Data end left) k a b by m word = refl
+phase-alike (phase.Echo n) k a b by m word = refl
 
 -- so of a unit
 unfoldable bareLine : line.Outcome → line.Outcome
@@ -466,9 +493,10 @@ bareLine o =
         reply = o .answer .reply;
         event = o .answer .event;
         session = record {
-          core = having (o .answer .session .core .dialect) (o .answer .session .core) atOpening;
+          core = having (o .answer .session .core .dialect) (o .answer .session .core) (numberedAs atOpening (o .answer .session .core .tally .totals));
           line = o .answer .session .line;
         };
+        wrote = o .answer .wrote;
       };
       memory = o .memory;
     }
@@ -478,38 +506,49 @@ unfolding pick
 same-line true x y z w e f = e
 same-line false x y z w e f = f
 
-word-alike : (k : Core) (t u : Totals) (m : List ℕ) (word : ℕ) → bare (wordStep (having Am17xx k t) m word) ≡ bare (wordStep (having Am17xx k u) m word)
+word-alike : (k : Core) (a b by : Totals) (m : List ℕ) (word : ℕ)
+    → bare (wordStep (having Am17xx k (numberedAs a by)) m word) ≡ bare (wordStep (having Am17xx k (numberedAs b by)) m word)
 unfolding wordStep
-word-alike k t u m word = phase-alike (k .stage .phase) k t u m word
+word-alike k a b by m word = phase-alike (k .stage .phase) k a b by m word
 
 carried-alike : (k h : Core) (l : Line) (o p : Outcome) → bare o ≡ bare p
     → bareLine (carried (record { core = k; line = l }) o) ≡ bareLine (carried (record { core = h; line = l }) p)
 unfolding carried bareLine
 carried-alike k h l o p e = ap (carried (record { core = k; line = l })) e
 
-plain-alike : (q : Refusal) (reply : Reply) (k : Core) (t v : Totals) (l : Line) (m : List ℕ)
-    → bareLine (plainly q reply (record { core = having Am17xx k t; line = l }) m) ≡ bareLine (plainly q reply (record { core = having Am17xx k v; line = l }) m)
-unfolding bareLine
-plain-alike q reply k t v l m = refl
+module _ (k : Core) (a b by : Totals) (l : Line) where
+  abbrev first : Session
+  first = record { core = having Am17xx k (numberedAs a by); line = l }
 
-unit-alike : (bus : Bus) (k : Core) (l : Line) (t v : Totals) (m : List ℕ) (u : ℕ)
-    → bareLine (unitStep bus (record { core = having Am17xx k t; line = l }) m u) ≡ bareLine (unitStep bus (record { core = having Am17xx k v; line = l }) m u)
-unfolding unitStep isStart
-unit-alike bus k l t v m u =
-    same-line (k .ended) _ _ _ _ (plain-alike _ _ k t v _ m)
-    (same-line (not (eqb (length m) (sumOf (k .windows)))) _ _ _ _ (plain-alike _ _ k t v _ m)
-    (same-line (eqb u (startUnit bus) && (not (l .started) || (eqb (l .have) 0 && not (k .begun)))) _ _ _ _ (plain-alike _ _ k t v _ m)
-    (same-line (not (l .started)) _ _ _ _ (plain-alike _ _ k t v _ m)
-    (same-line (ltb (l .have) (unitsInWord bus - 1)) _ _ _ _ (plain-alike _ _ k t v _ m)
-    (carried-alike (having Am17xx k t) (having Am17xx k v) l _ _ (word-alike k t v m (pushed bus (l .word) u)))))))
+  abbrev second : Session
+  second = record { core = having Am17xx k (numberedAs b by); line = l }
+
+  plain-alike : (q : Refusal) (reply : Reply) (started : Bool) (have word : ℕ) (m : List ℕ)
+      → bareLine (plainly q reply (gathered first started have word) m) ≡ bareLine (plainly q reply (gathered second started have word) m)
+  unfolding bareLine
+  plain-alike q reply started have word m = refl
+
+  same-alike : (q : Refusal) (reply : Reply) (m : List ℕ) → bareLine (plainly q reply first m) ≡ bareLine (plainly q reply second m)
+  unfolding bareLine
+  same-alike q reply m = refl
+
+  unit-alike : (bus : Bus) (m : List ℕ) (u : ℕ) → bareLine (unitStep bus first m u) ≡ bareLine (unitStep bus second m u)
+  unfolding unitStep isStart
+  unit-alike bus m u =
+      same-line (k .ended) _ _ _ _ (same-alike _ _ m)
+      (same-line (not (eqb (length m) (sumOf (k .windows)))) _ _ _ _ (same-alike _ _ m)
+      (same-line (eqb u (startUnit bus) && (not (l .started) || (eqb (l .have) 0 && not (k .begun)))) _ _ _ _ (plain-alike _ _ _ _ _ m)
+      (same-line (not (l .started)) _ _ _ _ (same-alike _ _ m)
+      (same-line (ltb (l .have) (unitsInWord bus - 1)) _ _ _ _ (plain-alike _ _ _ _ _ m)
+      (carried-alike (having Am17xx k (numberedAs a by)) (having Am17xx k (numberedAs b by)) l _ _ (word-alike k a b by m (pushed bus (l .word) u)))))))
 
 next-alike : (bus : Bus) (x : State) (t : Totals) (u : ℕ) → x .session .core .dialect ≡ Am17xx
     → bareLine (unitStep bus (x .session) (x .memory) u) ≡ bareLine (unitStep bus (withTotals t x .session) (x .memory) u)
 next-alike bus x t u am =
     subst
     (λ (d : Dialect). bareLine (unitStep bus (record { core = having d (x .session .core) (totals x); line = x .session .line }) (x .memory) u)
-    ≡ bareLine (unitStep bus (record { core = having d (x .session .core) t; line = x .session .line }) (x .memory) u))
-    (sym am) (unit-alike bus (x .session .core) (x .session .line) (totals x) t (x .memory) u)
+    ≡ bareLine (unitStep bus (record { core = having d (x .session .core) (numberedAs t (totals x)); line = x .session .line }) (x .memory) u))
+    (sym am) (unit-alike (x .session .core) (totals x) t (totals x) (x .session .line) bus (x .memory) u)
 
 fed-alike : (bus : Bus) (units : List ℕ) (x y : State) → x .session .core .dialect ≡ Am17xx → withTotals atOpening x ≡ withTotals atOpening y → ButTotals bus x y units
 unfolding fed answers bareLine

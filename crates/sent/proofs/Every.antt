@@ -15,7 +15,6 @@ use Rattle.script.specs.declared.Command.the-variants as command
 use Rattle.script.specs.declared.Dialect.{Dialect}
 use Rattle.script.specs.declared.Dialect.the-variants.{Am17xx, Dm648}
 use Rattle.script.specs.declared.Event.{Event}
-use Rattle.script.specs.declared.Event.the-variants as event
 use Rattle.script.specs.declared.Found.{Found}
 use Rattle.script.specs.declared.Found.the-variants.{Known, Retired, Unknown}
 use Rattle.script.specs.declared.Mode.the-variants.{Sent}
@@ -26,8 +25,9 @@ use Rattle.commands.specs.Commands.{doneIf, memoryIf, loadJudged, fillJudged, f
 use Rattle.commands.specs.declared.Done.{Done}
 use Rattle.commands.specs.declared.Judged.{Judged}
 use Rattle.commands.specs.declared.Judged.the-variants.{Granted, Refused}
+use Rattle.commands.specs.declared.Wrote.{Wrote}
 use Rattle.sent.specs.Lift.{EveryWord}
-use Rattle.sent.specs.Machine.{Outcome, changed, stop, refused, _leaving_, noneKept, counting, loadBegun, after, entered, performed, toward, begun, acknowledging, opening, atOpcode, inPhase, wordStep}
+use Rattle.sent.specs.Machine.{Outcome, changed, stop, refused, writing, _leaving_, noneKept, numbering, counting, loadBegun, after, entered, performed, toward, begun, acknowledging, opening, atOpcode, inPhase, wordStep}
 use Rattle.sent.specs.Replies.{silence, oneWord, wordThen, acknowledged, doneWord, farewell}
 use Rattle.sent.specs.declared.Core.{Core}
 use Rattle.sent.specs.declared.Kept.{Kept}
@@ -71,11 +71,12 @@ record Keeps (k : Core) (m : List ℕ) (o : Outcome) : Type 0 where
   stopped : numberOf (o .answer .refusal) ≢ 0 → Stopped m o
 
 -- one that is accepted, and one that is refused
-accepting : {k : Core} {m left : List ℕ} {reply : Reply} {event : Event} {ended on : Bool} {tally : Tally} {next : Phase} → WholeWords reply → Overwritten m left
-    → Keeps k m (record { refusal = refusal.None; reply = reply; event = event; core = changed k ended on (k .begun) tally next } leaving left)
+accepting : {k : Core} {m left : List ℕ} {reply : Reply} {event : Event} {ended on : Bool} {tally : Tally} {next : Phase} {wrote : Wrote} → WholeWords reply
+    → Overwritten m left
+    → Keeps k m (record { refusal = refusal.None; reply = reply; event = event; core = changed k ended on (k .begun) tally next; wrote = wrote } leaving left)
 accepting said over = record { windows = refl; dialect = refl; begun = refl; memory = over; said = said; stopped = λ h. absurd (h refl) }
 
-refusing : (k : Core) (m : List ℕ) (q : Refusal) → Keeps k m (refused k q leaving m)
+refusing : (k : Core) (m : List ℕ) (q : Refusal) {wrote : Wrote} → Keeps k m (writing wrote (refused k q) leaving m)
 refusing k m q =
     record {
       windows = refl;
@@ -90,12 +91,12 @@ load-keeps : (k : Core) (m : List ℕ) (address size : ℕ) (judged : Judged) �
 load-keeps k m address size (Granted place) = accepting none-said untouched
 load-keeps k m address size (Refused q) = refusing k m q
 
-done-keeps : (k : Core) (m left : List ℕ) (totals : Totals) (done : Done) → Overwritten m left → (numberOf (done .refusal) ≢ 0 → left ≡ m)
-    → Keeps k m (after k totals done leaving left)
+done-keeps : (k : Core) (m left : List ℕ) (totals : Totals) (done : Done) {wrote : Wrote} → Overwritten m left → (numberOf (done .refusal) ≢ 0 → left ≡ m)
+    → Keeps k m (writing wrote (after k totals done) leaving left)
 unfolding after
-done-keeps k m left totals done over same =
-    of-choice (λ (t : Taken). Keeps k m (t leaving left)) _ (λ h. accepting none-said over)
-    (λ h. subst (λ (l : List ℕ). Keeps k m (refused k (done .refusal) leaving l)) (sym (same (eqb-false _ _ h))) (refusing k m (done .refusal)))
+done-keeps k m left totals done {wrote} over same =
+    of-choice (λ (t : Taken). Keeps k m (writing wrote t leaving left)) _ (λ h. accepting none-said over)
+    (λ h. subst (λ (l : List ℕ). Keeps k m (writing wrote (refused k (done .refusal)) leaving l)) (sym (same (eqb-false _ _ h))) (refusing k m (done .refusal)))
 
 -- a command that is refused leaves the memory as it was
 kept-if : (judged : Judged) (register : ℕ) (told : Event) (fed : ℕ) (writing : ℕ → List ℕ) (m : List ℕ)
@@ -112,8 +113,14 @@ fill-keeps k m kept word =
 setting-keeps : (k : Core) (m : List ℕ) (kept : Kept) (word : ℕ) → Keeps k m (performed command.BootTable k m kept word)
 unfolding settingDone settingMemory
 setting-keeps k m kept word =
-    let judged : Judged = settingJudged (k .windows) (kept .first) (kept .second) (kept .third) in
+    let judged : Judged = numbering k (settingJudged (k .windows) (kept .first) (kept .second) (kept .third)) in
     done-keeps k m _ _ _ (setting-over judged m (kept .first) (kept .third)) (kept-if judged _ _ _ _ m)
+
+-- a command that writes nothing
+closed-keeps : (k : Core) (m : List ℕ) (totals : Totals) (done : Done) → Keeps k m (after k totals done leaving m)
+unfolding after
+closed-keeps k m totals done =
+    of-choice (λ (t : Taken). Keeps k m (t leaving m)) _ (λ h. accepting none-said untouched) (λ h. refusing k m (done .refusal))
 
 farewell-said : (dialect : Dialect) → WholeWords (farewell dialect)
 farewell-said Am17xx = none-said
@@ -123,7 +130,7 @@ entered-keeps : (k : Core) (m : List ℕ) (t : Taken) → Keeps k m (t leaving m
 unfolding entered
 entered-keeps k m t keeps =
     of-choice (λ (x : Taken). Keeps k m (x leaving m)) _
-    {a = record { refusal = t .refusal; reply = farewell (t .core .dialect); event = t .event; core = stop (t .core) }}
+    {a = record { refusal = t .refusal; reply = farewell (t .core .dialect); event = t .event; core = stop (t .core); wrote = t .wrote }}
     (λ h. record {
       windows = keeps .windows;
       dialect = keeps .dialect;
@@ -142,7 +149,7 @@ performed-keeps command.Enable k m kept word = accepting none-said untouched
 performed-keeps command.Disable k m kept word = accepting none-said untouched
 performed-keeps command.Request k m kept word = accepting (one-said (k .tally .register)) untouched
 performed-keeps command.StartOver k m kept word = accepting none-said untouched
-performed-keeps command.JumpAndClose k m kept word = entered-keeps k m _ (done-keeps k m m _ _ untouched (λ h. refl))
+performed-keeps command.JumpAndClose k m kept word = entered-keeps k m (after k _ _) (closed-keeps k m _ _)
 performed-keeps command.Ping k m kept word = accepting (one-said word) untouched
 performed-keeps command.SequentialRead k m kept word = refusing k m refusal.Opcode
 
@@ -152,7 +159,7 @@ toward-keeps c left k m kept word =
 
 -- an acknowledgement comes before what else is said
 acknowledged-keeps : (opcode : ℕ) (k : Core) (m left : List ℕ) (t : Taken) → numberOf (t .refusal) ≡ 0 → Keeps k m (t leaving left)
-    → Keeps k m (record { refusal = t .refusal; reply = wordThen (acknowledged opcode) (t .reply); event = t .event; core = t .core } leaving left)
+    → Keeps k m (record { refusal = t .refusal; reply = wordThen (acknowledged opcode) (t .reply); event = t .event; core = t .core; wrote = t .wrote } leaving left)
 acknowledged-keeps opcode k m left t accepted keeps =
     record {
       windows = keeps .windows;

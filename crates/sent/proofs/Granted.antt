@@ -1,6 +1,6 @@
 -- A load or a command done at its last argument word that is not refused was granted: what is judged refused has a refusal's number.
 use Prim.Native.Nat.{ℕ}
-use mathlib.Core.Bool.{Bool}
+use mathlib.Core.Bool.{Bool, false}
 use mathlib.Core.Logic.{_≢_}
 use mathlib.Core.Path.{_≡_, refl, sym, ap, _∙_}
 use lib.Dec.{eqb}
@@ -10,12 +10,13 @@ use Rattle.script.specs.Answers.{numberOf}
 use Rattle.script.specs.declared.Event.{Event}
 use Rattle.script.specs.declared.Refusal.{Refusal}
 use Rattle.script.specs.declared.Refusal.the-variants as refusal
+use Rattle.totals.specs.Totals.{wouldPass, isSpent}
 use Rattle.totals.specs.declared.Totals.{Totals}
-use Rattle.commands.specs.Commands.{barred, doneIf}
+use Rattle.commands.specs.Commands.{doneIf, barred}
 use Rattle.commands.specs.declared.Judged.{Judged}
 use Rattle.commands.specs.declared.Judged.the-variants.{Granted, Refused}
-use Rattle.commands.proofs.Judging.{EachRefusal, Passes, barred-passes}
-use Rattle.sent.specs.Machine.{after, loadBegun}
+use Rattle.commands.proofs.Judging.{EachRefusal, Passes, barred-passes, granted-before}
+use Rattle.sent.specs.Machine.{after, numbering, counting, loadBegun}
 use Rattle.sent.specs.declared.Core.{Core}
 use Rattle.sent.specs.declared.Taken.{Taken}
 
@@ -38,9 +39,27 @@ numbers =
       entry = eqb-false 10 0 refl;
     }
 
--- 18 is one
-pub section-numbered : (test : Bool) (judged : Judged) → Numbered judged → Numbered (barred test refusal.Overflow judged)
-section-numbered test judged h = barred-passes (λ (q : Refusal). numberOf q ≢ 0) test refusal.Overflow judged (eqb-false 18 0 refl) h
+-- 25 is one, and 18
+pub last-numbered : (k : Core) (judged : Judged) → Numbered judged → Numbered (numbering k judged)
+last-numbered k judged h = barred-passes (λ (q : Refusal). numberOf q ≢ 0) _ refusal.Number judged (eqb-false 25 0 refl) h
+
+pub section-numbered : (k : Core) (size : ℕ) (judged : Judged) → Numbered judged → Numbered (counting k size judged)
+section-numbered k size judged h =
+    let passes : Bool = wouldPass (k .dialect) (k .tally .totals) size in
+    last-numbered k (barred passes refusal.Overflow judged)
+    (barred-passes (λ (q : Refusal). numberOf q ≢ 0) passes refusal.Overflow judged (eqb-false 18 0 refl) h)
+
+-- what is granted after them was granted before, took no total past the largest and found a number
+pub record Counts (k : Core) (size : ℕ) (judged : Judged) (place : ℕ) : Type 0 where
+  pub granted : judged ≡ Granted place
+  pub fits : wouldPass (k .dialect) (k .tally .totals) size ≡ false
+  pub unspent : isSpent (k .tally .totals) ≡ false
+
+pub section-counts : (k : Core) (size : ℕ) (judged : Judged) (place : ℕ) → counting k size judged ≡ Granted place → Counts k size judged place
+section-counts k size judged place e =
+    let last = granted-before (isSpent (k .tally .totals)) refusal.Number _ place e in
+    let first = granted-before (wouldPass (k .dialect) (k .tally .totals) size) refusal.Overflow judged place (last .1) in
+    record { granted = first .1; fits = first .0; unspent = last .0 }
 
 none-is-none : (q : Refusal) → q ≡ refusal.None → numberOf q ≢ 0 → ⊥
 none-is-none q e h = h (ap numberOf e)

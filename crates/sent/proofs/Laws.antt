@@ -17,16 +17,19 @@ use Rattle.checksum.specs.Checksum.{fedBit, fed, fedWords}
 use Rattle.script.specs.declared.Command.the-variants as command
 use Rattle.commands.specs.Commands.{loadJudged, loaded, wordsFed, loadFed}
 use Rattle.commands.proofs.Loading.{loaded-append}
+use Rattle.commands.specs.Wrote.{noneWrote, bytesWrote}
 use Rattle.commands.specs.declared.Judged.{Judged}
 use Rattle.commands.specs.declared.Judged.the-variants.{Granted}
+use Rattle.commands.specs.declared.Wrote.{Wrote}
 use Rattle.sent.specs.Bus.{allUnits}
-use Rattle.sent.specs.Machine.{Outcome, tallied, await, registered, countedOn, quiet, _leaving_, awaited, counting, loadBegun, dataBytes, performed, inPhase, wordStep}
+use Rattle.sent.specs.Machine.{Outcome, tallied, await, registered, countedOn, quiet, writing, _leaving_, awaited, counting, loadBegun, dataBytes, performed, inPhase, wordStep}
 use Rattle.sent.specs.Words.{afterWords}
 use Rattle.sent.specs.declared.Bus.the-variants.{Bytes}
 use Rattle.sent.specs.declared.Core.{Core}
 use Rattle.sent.specs.declared.Kept.{Kept}
 use Rattle.sent.specs.declared.Phase.{Phase}
 use Rattle.sent.specs.declared.Phase.the-variants as phase
+use Rattle.sent.specs.declared.Taken.{Taken}
 
 -- the bytes of words, lowest first
 abbrev pub bytesOf : List ℕ → List ℕ
@@ -86,7 +89,8 @@ data-fed r n w =
 -- a data word where some are left
 pub data-step : (k : Core) (m : List ℕ) (p n w : ℕ) → 0 < n → k .stage .phase ≡ awaited (p + n) n
     → wordStep k m w
-    ≡ quiet (await k (registered k (pick (k .on) (fed (k .tally .register) w (8 * min n 4)) (k .tally .register))) (awaited (p + n) (n - 4)))
+    ≡ writing (bytesWrote (Granted p) (min n 4) (k .tally .totals .next - 1))
+    (quiet (await k (registered k (pick (k .on) (fed (k .tally .register) w (8 * min n 4)) (k .tally .register))) (awaited (p + n) (n - 4))))
     leaving loaded m p (dataBytes w n)
 unfolding wordStep awaited
 data-step k m p n w more at =
@@ -117,9 +121,19 @@ awaited-none : (end : ℕ) → awaited end 0 ≡ phase.Opcode
 unfolding awaited
 awaited-none end = chosen _ _ _ (eq-eqb 0 0 refl)
 
+-- an outcome with what its last word wrote left out; some words go by no more of it
+abbrev pub unwritten : Outcome → Outcome
+unwritten o = writing noneWrote (o .answer) leaving o .memory
+
+pub same-words : (wrote : Wrote) (t : Taken) (m : List ℕ) (ws : List ℕ)
+    → unwritten (afterWords (writing wrote t leaving m) ws) ≡ unwritten (afterWords (t leaving m) ws)
+unfolding afterWords
+same-words wrote t m [] = refl
+same-words wrote t m (w ∷ ws) = refl
+
 -- the data of a load sent word by word: the bytes are those of the whole load, and so is what they feed
 pub pieces : (ws : List ℕ) (k : Core) (m : List ℕ) (p n : ℕ) → k .stage .phase ≡ awaited (p + n) n → length ws ≡ (n + 3) / 4
-    → afterWords (quiet k leaving m) ws
+    → unwritten (afterWords (quiet k leaving m) ws)
     ≡ quiet (await k (registered k (pick (k .on) (wordsFed (k .tally .register) ((n + 3) / 4) (take n (bytesOf ws))) (k .tally .register))) phase.Opcode)
     leaving loaded m p (take n (bytesOf ws))
 unfolding afterWords loaded put
@@ -130,7 +144,8 @@ pieces (w ∷ ws) k m p n at whole =
     let more : 0 < n = omega arith in
     let end : p + n ≡ p + length (dataBytes w n) + (n - 4) = omega (arith, data-length w n) in
     let next = await k (registered k (pick (k .on) (fed (k .tally .register) w (8 * min n 4)) (k .tally .register))) (awaited (p + n) (n - 4)) in
-    ap (λ (o : Outcome). afterWords o ws) (data-step k m p n w more at)
+    ap (λ (o : Outcome). unwritten (afterWords o ws)) (data-step k m p n w more at)
+    ∙ same-words (bytesWrote (Granted p) (min n 4) (k .tally .totals .next - 1)) (quiet next) (loaded m p (dataBytes w n)) ws
     ∙ pieces ws next (loaded m p (dataBytes w n)) (p + length (dataBytes w n)) (n - 4) (ap (λ (e : ℕ). awaited e (n - 4)) end) (omega arith)
     ∙ ap₂ (λ (r : ℕ) (left : List ℕ). quiet (await k (registered k r) phase.Opcode) leaving left) (fed-next (k .on) (k .tally .register) n w ws more)
     (loaded-append m p (dataBytes w n) (take (n - 4) (bytesOf ws)) ∙ ap (loaded m p) (all-bytes n w ws))
@@ -155,7 +170,7 @@ load-fed false r address n bytes e = refl
 -- a load that is granted at its size word, with its data: to register, totals and memory it does what the whole load does
 pub load-in-pieces : (k : Core) (m : List ℕ) (kept : Kept) (size place : ℕ) (ws : List ℕ)
     → counting k size (loadJudged (k .windows) (kept .third) size) ≡ Granted place → length ws ≡ (size + 3) / 4
-    → afterWords (performed command.Load k m kept size) ws
+    → unwritten (afterWords (performed command.Load k m kept size) ws)
     ≡ quiet
     (await k (tallied (pick (k .on) (loadFed (k .tally .register) (kept .third) (take size (bytesOf ws))) (k .tally .register)) (countedOn k size)) phase.Opcode)
     leaving loaded m place (take size (bytesOf ws))
@@ -163,7 +178,7 @@ load-in-pieces k m kept size place ws granted whole =
     let address : ℕ = kept .third in
     let r : ℕ = k .tally .register in
     let next = await k (tallied (pick (k .on) (fedWords r (address ∷ size ∷ [])) r) (countedOn k size)) (awaited (place + size) size) in
-    ap (λ (j : Judged). afterWords (loadBegun k address size j leaving m) ws) granted
+    ap (λ (j : Judged). unwritten (afterWords (loadBegun k address size j leaving m) ws)) granted
     ∙ pieces ws next m place size refl whole
     ∙ ap (λ (x : ℕ). quiet (await k (tallied x (countedOn k size)) phase.Opcode) leaving loaded m place (take size (bytesOf ws)))
     (load-fed (k .on) r address size _ (data-count size ws whole))

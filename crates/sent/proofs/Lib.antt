@@ -8,3 +8,4 @@ pub mod Laws
 pub mod Lift
 pub mod Memory
 pub mod Units
+pub mod Wrote

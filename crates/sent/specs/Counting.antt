@@ -1,6 +1,6 @@
 -- What the totals of a sent session come to (02, request 5): with no retry they count the loads and fills that were accepted; a DM648 that enters was told them, and
 -- says DONE; an AM17xx goes by none.
-use Prim.Native.Nat.{ℕ, _+_, _-_}
+use Prim.Native.Nat.{ℕ, _-_}
 use mathlib.Core.List.{List, [], _∷_, _++_}
 use mathlib.Core.Logic.{_≢_}
 use mathlib.Core.Path.{_≡_}
@@ -15,7 +15,7 @@ use Rattle.script.specs.declared.Found.the-variants.{Known}
 use Rattle.script.specs.declared.Mode.the-variants.{Sent}
 use Rattle.script.specs.declared.Refusal.the-variants.{None}
 use Rattle.totals.specs.Agreement.{plus, Zero}
-use Rattle.totals.specs.Totals.{standing, atOpening}
+use Rattle.totals.specs.Totals.{standing, atOpening, numberedAs}
 use Rattle.totals.specs.declared.Totals.{Totals}
 use Rattle.sent.specs.Bus.{unitsOf}
 use Rattle.sent.specs.Feeding.{State, totals, fed, answers}
@@ -68,13 +68,13 @@ unfoldable pub sizesOf : Core → List ℕ → List ℕ → List ℕ
 sizesOf k m [] = []
 sizesOf k m (word ∷ words) = sizesAt (k .stage .phase) word ++ sizesOf (wordStep k m word .answer .core) (wordStep k m word .memory) words
 
--- a state with other totals
+-- a state with other totals, its numbers as they are
 abbrev pub withTotals : Totals → State → State
 withTotals t x =
     let k : Core = x .session .core in
     record {
       session = record {
-        core = changed k (k .ended) (k .on) (k .begun) (tallied (k .tally .register) t) (k .stage .phase);
+        core = changed k (k .ended) (k .on) (k .begun) (tallied (k .tally .register) (numberedAs t (k .tally .totals))) (k .stage .phase);
         line = x .session .line;
       };
       memory = x .memory;

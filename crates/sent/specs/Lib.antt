@@ -8,3 +8,4 @@ pub mod Opening
 pub mod Purpose
 pub mod Replies
 pub mod Words
+pub mod Wrote

@@ -10,6 +10,7 @@ use Rattle.script.specs.Answers.{numberOf}
 use Rattle.script.specs.declared.Event.the-variants.{Nothing}
 use Rattle.script.specs.declared.Refusal.{Refusal}
 use Rattle.script.specs.declared.Refusal.the-variants as refusal
+use Rattle.commands.specs.Wrote.{noneWrote}
 use Rattle.sent.specs.Bus.{unitsInWord, startUnit, pushed}
 use Rattle.sent.specs.Machine as machine
 use Rattle.sent.specs.Machine.{wordStep}
@@ -26,7 +27,7 @@ pub record Outcome : Type 0 where
 
 -- an answer with no event, the memory as it was
 abbrev pub plainly : Refusal → Reply → Session → List ℕ → Outcome
-plainly q reply s m = record { answer = record { refusal = q; reply = reply; event = Nothing; session = s }; memory = m }
+plainly q reply s m = record { answer = record { refusal = q; reply = reply; event = Nothing; session = s; wrote = noneWrote }; memory = m }
 
 -- the session with other things gathered on the line
 abbrev pub gathered : Session → Bool → ℕ → ℕ → Session
@@ -44,6 +45,7 @@ carried s o =
           core = o .answer .core;
           line = pick (eqb (numberOf (o .answer .refusal)) 0) (record { started = s .line .started; have = 0; word = 0 }) (s .line);
         };
+        wrote = o .answer .wrote;
       };
       memory = o .memory;
     }

@@ -19,12 +19,14 @@ use Rattle.script.specs.declared.Found.the-variants.{Known, Retired, Unknown}
 use Rattle.script.specs.declared.Mode.the-variants.{Sent}
 use Rattle.script.specs.declared.Refusal.{Refusal}
 use Rattle.script.specs.declared.Refusal.the-variants as refusal
-use Rattle.totals.specs.Totals.{standing, wouldPass, differs, counted, turned}
+use Rattle.totals.specs.Totals.{standing, wouldPass, differs, counted, isSpent, numbered, turned}
 use Rattle.totals.specs.declared.Totals.{Totals}
 use Rattle.commands.specs.Commands.{barred, loadJudged, loaded, fillJudged, fillDone, fillMemory, settingJudged, settingDone, settingMemory, entryJudged, closeDone}
+use Rattle.commands.specs.Wrote.{noneWrote, bytesWrote, settingWrote}
 use Rattle.commands.specs.declared.Done.{Done}
 use Rattle.commands.specs.declared.Judged.{Judged}
 use Rattle.commands.specs.declared.Judged.the-variants.{Granted, Refused}
+use Rattle.commands.specs.declared.Wrote.{Wrote}
 use Rattle.sent.specs.Replies.{silence, oneWord, wordThen, acknowledged, farewell}
 use Rattle.sent.specs.declared.Core.{Core}
 use Rattle.sent.specs.declared.Kept.{Kept}
@@ -51,9 +53,9 @@ await k tally next = changed k (k .ended) (k .on) (k .begun) tally next
 abbrev pub registered : Core → ℕ → Tally
 registered k register = tallied register (k .tally .totals)
 
--- with one more section of so many bytes
+-- with one more section of so many bytes, and its number taken
 abbrev pub countedOn : Core → ℕ → Totals
-countedOn k size = counted (k .dialect) (k .tally .totals) size
+countedOn k size = numbered (counted (k .dialect) (k .tally .totals) size)
 
 -- ended, all else as it was
 abbrev pub stop : Core → Core
@@ -61,15 +63,19 @@ stop k = changed k true (k .on) (k .begun) (k .tally) (k .stage .phase)
 
 -- refused: no reply, no event, the session ended
 abbrev pub refused : Core → Refusal → Taken
-refused k q = record { refusal = q; reply = silence; event = Nothing; core = stop k }
+refused k q = record { refusal = q; reply = silence; event = Nothing; core = stop k; wrote = noneWrote }
 
 -- accepted, with a reply
 abbrev pub said : Reply → Core → Taken
-said reply k = record { refusal = refusal.None; reply = reply; event = Nothing; core = k }
+said reply k = record { refusal = refusal.None; reply = reply; event = Nothing; core = k; wrote = noneWrote }
 
 -- accepted, with no reply
 abbrev pub quiet : Core → Taken
 quiet k = said silence k
+
+-- an answer with what was written
+abbrev pub writing : Wrote → Taken → Taken
+writing wrote t = record { refusal = t .refusal; reply = t .reply; event = t .event; core = t .core; wrote = wrote }
 
 -- what a word gives: its answer and the memory that it leaves
 pub record Outcome : Type 0 where
@@ -84,14 +90,14 @@ answer leaving memory = record { answer = answer; memory = memory }
 unfoldable pub after : Core → Totals → Done → Taken
 after k totals done =
     pick (eqb (numberOf (done .refusal)) 0)
-    (record { refusal = refusal.None; reply = silence; event = done .event; core = await k (tallied (done .register) totals) phase.Opcode })
+    (record { refusal = refusal.None; reply = silence; event = done .event; core = await k (tallied (done .register) totals) phase.Opcode; wrote = noneWrote })
     (refused k (done .refusal))
 
 -- Jump & Close: entered, the session is ended, and a DM648 says DONE
 unfoldable pub entered : Taken → Taken
 entered t =
     pick (eqb (numberOf (t .refusal)) 0)
-    (record { refusal = t .refusal; reply = farewell (t .core .dialect); event = t .event; core = stop (t .core) })
+    (record { refusal = t .refusal; reply = farewell (t .core .dialect); event = t .event; core = stop (t .core); wrote = t .wrote })
     t
 
 -- no argument word of a command has come yet
@@ -106,11 +112,15 @@ keeping kept word = record { first = kept .second; second = kept .third; third =
 unfoldable pub awaited : ℕ → ℕ → Phase
 awaited end left = pick (eqb left 0) phase.Opcode (phase.Data end left)
 
--- 18: a load or a fill, as judged before, that would take a total past the largest
-abbrev pub counting : Core → ℕ → Judged → Judged
-counting k size judged = barred (wouldPass (k .dialect) (k .tally .totals) size) refusal.Overflow judged
+-- 25: a command, as judged before, that finds no number
+abbrev pub numbering : Core → Judged → Judged
+numbering k judged = barred (isSpent (k .tally .totals)) refusal.Number judged
 
--- a load at its size word: 7, 18, else address and size are fed, and it counts
+-- 18, before it: a load or a fill, as judged before, that would take a total past the largest
+abbrev pub counting : Core → ℕ → Judged → Judged
+counting k size judged = numbering k (barred (wouldPass (k .dialect) (k .tally .totals) size) refusal.Overflow judged)
+
+-- a load at its size word: 7, 18, 25, else address and size are fed, and it counts
 abbrev pub loadBegun : Core → ℕ → ℕ → Judged → Taken
 loadBegun k address size (Granted place) =
     quiet
@@ -142,11 +152,13 @@ performed command.Load k m kept word =
     loadBegun k (kept .third) word (counting k word (loadJudged (k .windows) (kept .third) word)) leaving m
 performed command.Fill k m kept word =
     let judged : Judged = counting k (kept .second) (fillJudged (k .windows) (kept .first) (kept .second) (kept .third)) in
-    after k (countedOn k (kept .second)) (fillDone judged (k .on) (k .tally .register) (kept .first) (kept .second) (kept .third) word)
+    writing (bytesWrote judged (kept .second) (k .tally .totals .next))
+    (after k (countedOn k (kept .second)) (fillDone judged (k .on) (k .tally .register) (kept .first) (kept .second) (kept .third) word))
     leaving fillMemory judged m (kept .second) (kept .third) word
 performed command.BootTable k m kept word =
-    let judged : Judged = settingJudged (k .windows) (kept .first) (kept .second) (kept .third) in
-    after k (k .tally .totals) (settingDone judged (k .tally .register) word) leaving settingMemory judged m (kept .first) (kept .third)
+    let judged : Judged = numbering k (settingJudged (k .windows) (kept .first) (kept .second) (kept .third)) in
+    writing (settingWrote judged (kept .first) (k .tally .totals .next)) (after k (numbered (k .tally .totals)) (settingDone judged (k .tally .register) word))
+    leaving settingMemory judged m (kept .first) (kept .third)
 performed command.Enable k m kept word = quiet (changed k (k .ended) true (k .begun) (registered k 0) phase.Opcode) leaving m
 performed command.Disable k m kept word = quiet (changed k (k .ended) false (k .begun) (k .tally) phase.Opcode) leaving m
 performed command.Request k m kept word = said (oneWord (k .tally .register)) (await k (registered k 0) phase.Opcode) leaving m
@@ -170,7 +182,7 @@ begun command k = changed k (k .ended) (k .on) true (tallied (k .tally .register
 unfoldable pub acknowledging : ℕ → Taken → Taken
 acknowledging opcode t =
     pick (eqb (numberOf (t .refusal)) 0)
-    (record { refusal = t .refusal; reply = wordThen (acknowledged opcode) (t .reply); event = t .event; core = t .core })
+    (record { refusal = t .refusal; reply = wordThen (acknowledged opcode) (t .reply); event = t .event; core = t .core; wrote = t .wrote })
     t
 
 -- so of an outcome; the memory is the command's
@@ -183,12 +195,13 @@ atOpcode k m opcode Unknown = refused k refusal.Opcode leaving m
 atOpcode k m opcode Retired = refused k refusal.Retired leaving m
 atOpcode k m opcode (Known command words) = opening opcode (toward command words (begun command k) m noneKept 0)
 
--- a whole word, by the phase that awaits it
+-- a whole word, by the phase that awaits it; the data of a load are written by its number, the last that was taken
 abbrev pub inPhase : Phase → Core → List ℕ → ℕ → Outcome
 inPhase phase.Opcode k m word = atOpcode k m word (lookedUp word Sent (k .dialect))
 inPhase (phase.Argument command left kept) k m word = toward command (left - 1) k m kept word
 inPhase (phase.Data end left) k m word =
-    quiet (await k (registered k (pick (k .on) (fed (k .tally .register) word (8 * min left 4)) (k .tally .register))) (awaited end (left - 4)))
+    writing (bytesWrote (Granted (end - left)) (min left 4) (k .tally .totals .next - 1))
+    (quiet (await k (registered k (pick (k .on) (fed (k .tally .register) word (8 * min left 4)) (k .tally .register))) (awaited end (left - 4))))
     leaving loaded m (end - left) (dataBytes word left)
 inPhase (phase.Echo n) k m word = said (oneWord word) (await k (k .tally) (echoing (n - 1))) leaving m
 

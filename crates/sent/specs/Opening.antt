@@ -2,14 +2,17 @@
 use Prim.Native.Nat.{ℕ}
 use mathlib.Core.Bool.{Bool, true, false, not}
 use mathlib.Core.List.{List, [], _∷_}
+use lib.Dec.{eqb}
 use lib.ListN.{replicate}
 use Rattle.words.specs.Choice.{pick}
 use Rattle.windows.specs.Map.{goodMap, keptOf, zeroWindow}
 use Rattle.windows.specs.declared.Window.{Window}
+use Rattle.script.specs.Answers.{numberOf}
 use Rattle.script.specs.declared.Dialect.{Dialect}
 use Rattle.script.specs.declared.Dialect.the-variants.{Am17xx}
 use Rattle.script.specs.declared.Refusal.the-variants.{None, Map}
-use Rattle.totals.specs.Totals.{atOpening}
+use Rattle.totals.specs.Totals.{atOpening, fromOne}
+use Rattle.sent.specs.Machine.{tallied, changed}
 use Rattle.sent.specs.Replies.{silence}
 use Rattle.sent.specs.declared.Bus.{Bus}
 use Rattle.sent.specs.declared.Bus.the-variants.{Bytes, Halves}
@@ -44,3 +47,16 @@ unfoldable pub openedBy : Bus → Dialect → ℕ → List Window → Opened
 openedBy bus dialect count windows =
     pick (not (goodMap count windows)) (record { refusal = Map; reply = silence; session = atStart Am17xx (replicate 8 zeroWindow) true })
     (record { refusal = None; reply = greeting bus; session = atStart dialect (keptOf count windows) false })
+
+-- a session whose commands are numbered from 1
+abbrev pub fromOneOn : Session → Session
+fromOneOn s =
+    record {
+      core = changed (s .core) (s .core .ended) (s .core .on) (s .core .begun) (tallied (s .core .tally .register) (fromOne (s .core .tally .totals))) (s .core .stage .phase);
+      line = s .line;
+    }
+
+-- an opening with such a session; a refused one is as it was
+unfoldable pub numberingFrom : Opened → Opened
+numberingFrom o =
+    pick (eqb (numberOf (o .refusal)) 0) (record { refusal = o .refusal; reply = o .reply; session = fromOneOn (o .session) }) o

@@ -23,6 +23,7 @@ ghost use Rattle.sent.specs.Machine.{
   refused,
   said,
   quiet,
+  writing,
   _leaving_,
   after,
   entered,
@@ -30,6 +31,7 @@ ghost use Rattle.sent.specs.Machine.{
   keeping,
   awaited,
   countedOn,
+  numbering,
   counting,
   loadBegun,
   dataBytes,
@@ -43,11 +45,12 @@ ghost use Rattle.sent.specs.Machine.{
   inPhase,
   wordStep,
 };
-ghost use Rattle.sent.specs.Opening.{greeting, atStart, openedBy};
+ghost use Rattle.sent.specs.Opening.{greeting, atStart, openedBy, fromOneOn, numberingFrom};
 ghost use Rattle.sent.specs.Purpose.{opcodePurpose, purposeOf, served};
 ghost use Rattle.sent.specs.Replies.{silence, startAnswer, oneWord, wordThen, acknowledged, farewell};
 use commands::Done;
 use commands::Judged;
+use commands::Wrote;
 use script::Command;
 use script::Dialect;
 use script::Event;
@@ -74,9 +77,9 @@ pub struct Tally {
 
 // The last three argument words of a command that came before its last, the latest third.
 pub struct Kept {
-    pub first: u32,
-    pub second: u32,
     pub third: u32,
+    pub second: u32,
+    pub first: u32,
 }
 
 // What the word machine awaits next, with what it needs to know then. Argument: of which command, how many are left, and those kept. Data: the place past
@@ -131,20 +134,22 @@ pub struct Reply {
     pub count: u32,
 }
 
-// The answer to a whole word.
+// The answer to a whole word; `wrote` is the bits of memory that were written.
 pub struct Taken {
     pub refusal: Refusal,
     pub reply: Reply,
     pub event: Event,
     pub core: Core,
+    pub wrote: Wrote,
 }
 
-// The answer to a unit.
+// The answer to a unit, likewise.
 pub struct Answer {
     pub refusal: Refusal,
     pub reply: Reply,
     pub event: Event,
     pub session: Session,
+    pub wrote: Wrote,
 }
 
 // The answer to an opening, with the greeting where it is not refused.
@@ -257,6 +262,49 @@ pub fn open_on(bus: Bus, dialect: Dialect, count: usize, windows: [Window; 8]) -
         reply: greet(bus),
         session: begin(dialect, windows::kept(count, windows), false),
     }
+}
+
+// The same with its commands numbered from 1.
+pub fn open_numbering(bus: Bus, dialect: Dialect, count: usize, windows: [Window; 8]) -> Opened
+    ensures { λ r. ⌜ r ≡ numberingFrom (openedBy bus dialect count windows) ⌝ }
+{
+    let opened = open_on(bus, dialect, count, windows);
+    number_from(opened)
+}
+
+// An opening that is not refused, its commands numbered from 1.
+fn number_from(opened: Opened) -> Opened
+    ensures { λ r. ⌜ r ≡ numberingFrom opened ⌝ }
+{
+    let refusal = opened.refusal;
+    if refusal.number() == 0 {
+        let reply = opened.reply;
+        let session = from_one(opened.session);
+        return Opened {
+            refusal,
+            reply,
+            session,
+        };
+    }
+    opened
+}
+
+// The session with its commands numbered from 1.
+fn from_one(session: Session) -> Session
+    ensures { λ r. ⌜ r ≡ fromOneOn session ⌝ }
+{
+    let core = session.core;
+    let tally = core.tally;
+    let totals = tally.totals;
+    let first = Tally {
+        register: tally.register,
+        totals: totals.from_one(),
+    };
+    let mut numbered = core;
+    numbered.tally = first;
+    let mut next = session;
+    next.core = numbered;
+    next
 }
 
 // One unit of a line.
@@ -446,6 +494,7 @@ fn tell(refusal: Refusal, reply: Reply, session: Session) -> Answer
         reply,
         event: Event::Nothing,
         session,
+        wrote: commands::wrote_none(),
     }
 }
 
@@ -458,9 +507,42 @@ fn gather(session: Session, started: bool, have: u8, word: u32) -> Session
         have,
         word,
     };
-    let mut next = session;
-    next.line = line;
-    next
+    let core = session.core;
+    let tally = core.tally;
+    let same = Tally {
+        register: tally.register,
+        totals: anew(tally.totals),
+    };
+    let windows = core.windows;
+    let dialect = core.dialect;
+    let stage = core.stage;
+    Session {
+        core: Core {
+            windows,
+            dialect,
+            ended: core.ended,
+            on: core.on,
+            begun: core.begun,
+            tally: same,
+            stage,
+        },
+        line,
+    }
+}
+
+// The same totals, put together field by field: copied whole they take along the bytes between the fields, which each unit then waits for.
+fn anew(totals: Totals) -> Totals
+    ensures { λ r. ⌜ r ≡ totals ⌝ }
+{
+    let now = totals.now;
+    let mark = totals.mark;
+    Totals {
+        now,
+        mark,
+        asked: totals.asked,
+        next: totals.next,
+        back: totals.back,
+    }
 }
 
 // The start unit of a line.
@@ -534,12 +616,14 @@ fn carry(session: Session, taken: Taken) -> Answer
     let reply = taken.reply;
     let event = taken.event;
     let core = taken.core;
+    let wrote = taken.wrote;
     let line = line_after(session.line, refusal);
     Answer {
         refusal,
         reply,
         event,
         session: Session { core, line },
+        wrote,
     }
 }
 
@@ -573,6 +657,7 @@ fn refuse(core: Core, refusal: Refusal) -> Taken
         reply: silent(),
         event: Event::Nothing,
         core: stopped(core),
+        wrote: commands::wrote_none(),
     }
 }
 
@@ -586,7 +671,17 @@ fn say(reply: Reply, core: Core) -> Taken
         reply,
         event: Event::Nothing,
         core,
+        wrote: commands::wrote_none(),
     }
+}
+
+// The answer with what was written.
+fn tell_wrote(taken: Taken, wrote: Wrote) -> Taken
+    ensures { λ r. ⌜ r ≡ writing wrote taken ⌝ }
+{
+    let mut told = taken;
+    told.wrote = wrote;
+    told
 }
 
 // An argument word is taken, and another word awaited.
@@ -609,6 +704,7 @@ fn finish(core: Core, totals: Totals, done: Done) -> Taken
             reply: silent(),
             event,
             core: moved(core, done.register, totals, Phase::Opcode),
+            wrote: commands::wrote_none(),
         };
     }
     refuse(core, refusal)
@@ -676,24 +772,35 @@ fn end_of(windows: [Window; 8], place: usize, size: u32) -> usize
     place + (size as usize)
 }
 
-// A load or a fill as judged before, 18 where it would take a total past the largest.
+// A command as judged before, 25 where it finds no number.
+fn judge_number(core: Core, judged: Judged) -> Judged
+    ensures { λ r. ⌜ r ≡ numbering core judged ⌝ }
+{
+    let tally = core.tally;
+    let totals = tally.totals;
+    commands::bar(judged, totals.is_spent(), Refusal::Number)
+}
+
+// A load or a fill as judged before, 18 where it would take a total past the largest, then 25.
 fn judge_count(core: Core, size: u32, judged: Judged) -> Judged
     ensures { λ r. ⌜ r ≡ counting core size judged ⌝ }
 {
     let dialect = core.dialect;
     let tally = core.tally;
     let totals = tally.totals;
-    commands::bar(judged, totals.would_pass(dialect, size), Refusal::Overflow)
+    let fits = commands::bar(judged, totals.would_pass(dialect, size), Refusal::Overflow);
+    judge_number(core, fits)
 }
 
-// The totals with one more section of so many bytes.
+// The totals with one more section of so many bytes, and its number taken.
 fn count_on(core: Core, size: u32) -> Totals
     ensures { λ r. ⌜ r ≡ countedOn core size ⌝ }
 {
     let dialect = core.dialect;
     let tally = core.tally;
     let totals = tally.totals;
-    totals.count(dialect, size)
+    let counted = totals.count(dialect, size);
+    counted.number()
 }
 
 // Load, at its size word.
@@ -762,16 +869,32 @@ fn left_after(left: u32) -> u32
     if left <= 4 { 0 } else { left - 4 }
 }
 
+// The answer to a data word of a load.
+fn data_answer(core: Core, end: usize, left: u32, word: u32) -> Taken
+    ensures { λ r. ⌜ r ≡ inPhase (Phase.Data end left) core [] word .answer ⌝ }
+{
+    let tally = core.tally;
+    let totals = tally.totals;
+    let place = place_before(end, left);
+    let register = feed_data(core.on, tally.register, word, left);
+    let phase = data_phase(end, left_after(left));
+    tell_wrote(
+        say(silent(), moved(core, register, totals, phase)),
+        commands::wrote_bytes(
+            Judged::Granted(place),
+            four_at_most(left),
+            less_one(totals.next),
+        ),
+    )
+}
+
 // A data word of a load.
 fn take_data(core: Core, memory: &mut [u8], end: usize, left: u32, word: u32) -> Taken
     ensures { λ r. ⌜ r ≡ inPhase (Phase.Data end left) core (now (memory .entry)) word .answer ⌝ }
     ensures { λ _. ⌜ now (memory .exit) ≡ inPhase (Phase.Data end left) core (now (memory .entry)) word .memory ⌝ }
 {
     put_data(memory, place_before(end, left), left, word);
-    let tally = core.tally;
-    let register = feed_data(core.on, tally.register, word, left);
-    let phase = data_phase(end, left_after(left));
-    say(silent(), moved(core, register, tally.totals, phase))
+    data_answer(core, end, left, word)
 }
 
 // Fill.
@@ -796,7 +919,11 @@ fn fill(core: Core, memory: &mut [u8], kept: Kept, pattern: u32) -> Taken
         kept.third,
         pattern,
     );
-    finish(core, count_on(core, kept.second), done)
+    let totals = tally.totals;
+    tell_wrote(
+        finish(core, count_on(core, kept.second), done),
+        commands::wrote_bytes(judged, kept.second, totals.next),
+    )
 }
 
 // Boot Table.
@@ -806,7 +933,10 @@ fn boot_table(core: Core, memory: &mut [u8], kept: Kept, delay: u32) -> Taken
 {
     let windows = core.windows;
     let tally = core.tally;
-    let judged = commands::judge_setting(windows, kept.first, kept.second, kept.third);
+    let judged = judge_number(
+        core,
+        commands::judge_setting(windows, kept.first, kept.second, kept.third),
+    );
     let done = commands::boot_table(
         memory,
         judged,
@@ -815,7 +945,11 @@ fn boot_table(core: Core, memory: &mut [u8], kept: Kept, delay: u32) -> Taken
         kept.third,
         delay,
     );
-    finish(core, tally.totals, done)
+    let totals = tally.totals;
+    tell_wrote(
+        finish(core, totals.number(), done),
+        commands::wrote_setting(judged, kept.first, totals.next),
+    )
 }
 
 // Enable, Disable, Start-Over: the checksum switched or as it was, with a register.

@@ -1,24 +1,24 @@
--- An attempt leaves no total behind: its first opcode settles what it finds, so that the mark is what stood where it began, and nothing up to its Start-Over
+-- An attempt leaves no total and no number behind: its first opcode settles what it finds, so that the mark is what stood where it began, and nothing up to its Start-Over
 -- moves the mark.
 use mathlib.Core.Bool.{Bool, true, false}
 use mathlib.Core.List.{List, [], _∷_}
 use mathlib.Core.Path.{_≡_, refl, sym, ap, _∙_}
 use Rattle.words.specs.Choice.{pick}
 use Rattle.script.specs.declared.Dialect.{Dialect}
-use Rattle.totals.specs.Totals.{counted, settled, asking, putBack}
-use Rattle.totals.specs.Attempts.{Write, section, setting, wrote, wroteAll, abandoned, Level, alone, NoTotalLeft, LevelThere, AloneTakesBack}
+use Rattle.totals.specs.Totals.{counted, following, numbered, settled, asking, putBack}
+use Rattle.totals.specs.Attempts.{Write, section, setting, wrote, wroteAll, abandoned, Level, alone, NoTotalLeft, LevelThere, SettingIsNotLevel, AloneTakesBack}
 use Rattle.totals.specs.declared.Totals.{Totals}
-use Rattle.totals.proofs.Laws.{stays, settled-asks-nothing, settled-once, counted-keeps, put-back-counted, put-back-asking}
+use Rattle.totals.proofs.Laws.{stays, settled-asks-nothing, settled-once, counted-keeps, put-back-counted, put-back-numbered, put-back-asking}
 
 -- one command more or less makes no difference to what a Start-Over after it leaves, once the totals are settled
 put-back-wrote : (dialect : Dialect) (t : Totals) (w : Write) → putBack (wrote dialect t w) ≡ putBack (settled t)
-put-back-wrote dialect t (section size) = put-back-counted dialect (settled t) size
-put-back-wrote dialect t setting = refl
+put-back-wrote dialect t (section size) = put-back-numbered (counted dialect (settled t) size) ∙ put-back-counted dialect (settled t) size
+put-back-wrote dialect t setting = put-back-numbered (settled t)
 
 -- a command leaves no Request standing
 wrote-settled : (dialect : Dialect) (t : Totals) (w : Write) → settled (wrote dialect t w) ≡ wrote dialect t w
 wrote-settled dialect t (section size) = stays _ (counted-keeps dialect (settled t) size .1 ∙ settled-asks-nothing t)
-wrote-settled dialect t setting = settled-once t
+wrote-settled dialect t setting = stays _ (settled-asks-nothing t)
 
 -- nor do several, and they make no difference to a Start-Over either
 all-settled : (dialect : Dialect) (t : Totals) (ws : List Write) → settled t ≡ t → settled (wroteAll dialect t ws) ≡ wroteAll dialect t ws
@@ -35,11 +35,10 @@ put-back-all dialect t (w ∷ ws) e =
 -- what stands at a level place is its mark
 put-back-level : (t : Totals) → Level t → putBack (settled t) ≡ settled t
 put-back-level t level =
-    let asks = settled-asks-nothing t in
-    sym (rebuilt (settled t) level asks)
+    sym (rebuilt (settled t) (level .0) (level .1) (settled-asks-nothing t))
   where
-    rebuilt : (u : Totals) → u .now ≡ u .mark → u .asked ≡ false → u ≡ putBack u
-    rebuilt u now none = rw (sym none, sym now)
+    rebuilt : (u : Totals) → u .now ≡ u .mark → u .next ≡ u .back → u .asked ≡ false → u ≡ putBack u
+    rebuilt u now next none = rw (sym none, sym now, sym next)
 
 begun : (dialect : Dialect) (t : Totals) (w : Write) (ws : List Write) → Level t → putBack (wroteAll dialect (wrote dialect t w) ws) ≡ settled t
 begun dialect t w ws level =
@@ -57,8 +56,8 @@ abandons dialect t (w ∷ ws) true level here =
     ∙ begun dialect t w ws level
 
 follows-one : (dialect : Dialect) (t : Totals) (w : Write) → wrote dialect (settled t) w ≡ wrote dialect t w
-follows-one dialect t (section size) = ap (λ (u : Totals). counted dialect u size) (settled-once t)
-follows-one dialect t setting = settled-once t
+follows-one dialect t (section size) = ap (λ (u : Totals). numbered (counted dialect u size)) (settled-once t)
+follows-one dialect t setting = ap numbered (settled-once t)
 
 follows : (dialect : Dialect) (t : Totals) (w : Write) (ws : List Write) → wroteAll dialect (settled t) (w ∷ ws) ≡ wroteAll dialect t (w ∷ ws)
 unfolding wroteAll
@@ -71,13 +70,17 @@ pub level-there : LevelThere
 unfolding pick
 level-there =
     record {
-      at-opening = refl;
-      after-enable = λ t. refl;
-      after-request = λ t. refl;
-      after-start-over = λ t. refl;
+      at-opening = (refl, refl);
+      after-enable = λ t. (refl, refl);
+      after-request = λ t. (refl, refl);
+      after-start-over = λ t. (refl, refl);
       after-settling = λ t level. rw (settled-once t) level;
     }
 
+pub setting-is-not-level : SettingIsNotLevel
+unfolding pick wroteAll following
+setting-is-not-level = record { stands = refl; next = refl; left = refl }
+
 pub alone-takes-back : AloneTakesBack
-unfolding pick wroteAll
-alone-takes-back = record { level = refl; stood = refl; back = refl }
+unfolding pick wroteAll following
+alone-takes-back = record { level = (refl, refl); stood = refl; back = refl }

@@ -6,16 +6,16 @@ use mathlib.Core.Path.{_≡_, refl, sym, ap, ap₂, _∙_}
 use native.Mathlib.Nat.{mod-eq-of-lt}
 use native.Mathlib.Omega.{arith}
 use lib.Dec.{ltb, eqb}
+use borrow.Author.Tests.{ltb-false, leb-false, eqb-true, ne-eqb}
 use lib.ListN.{length-append}
-use borrow.Author.Tests.{ltb-false, eqb-true}
 use Rattle.words.specs.Choice.{pick}
 use Rattle.words.proofs.Choice.{chosen, passed, by-test, both}
 use Rattle.script.specs.declared.Command.{Command}
 use Rattle.script.specs.declared.Command.the-variants as command
 use Rattle.script.specs.declared.Dialect.{Dialect}
 use Rattle.script.specs.declared.Dialect.the-variants.{Am17xx, Dm648}
-use Rattle.totals.specs.Totals.{standing, most, isPast, wouldPass, isOther, oneMore, counted, marked, settled, asking, putBack, turned}
-use Rattle.totals.specs.Agreement.{added, plus, CountsOn, NamesThem}
+use Rattle.totals.specs.Totals.{standing, numberedAs, most, isPast, isOther, oneMore, counted, following, numbered, marked, settled, asking, putBack, turned, wouldPass}
+use Rattle.totals.specs.Agreement.{CountsOn, NamesThem, NumbersOn, added, plus}
 use Rattle.totals.specs.declared.Standing.{Standing}
 use Rattle.totals.specs.declared.Totals.{Totals}
 
@@ -38,9 +38,14 @@ pub settled-now : (t : Totals) → settled t .now ≡ t .now
 settled-now t =
     by-test (t .asked) (λ e. ap (λ (u : Totals). u .now) (settles t e)) (λ e. ap (λ (u : Totals). u .now) (stays t e))
 
+pub settled-next : (t : Totals) → settled t .next ≡ t .next
+settled-next t =
+    by-test (t .asked) (λ e. ap (λ (u : Totals). u .next) (settles t e)) (λ e. ap (λ (u : Totals). u .next) (stays t e))
+
 -- so a mark makes no difference between totals and settled totals
 pub marked-settled : (t : Totals) → marked (settled t) ≡ marked t
-marked-settled t = ap (λ (now : Standing). record { now = now; mark = now; asked = false }) (settled-now t)
+marked-settled t =
+    ap₂ (λ (now : Standing) (next : ℕ). record { now = now; mark = now; asked = false; next = next; back = next }) (settled-now t) (settled-next t)
 
 -- a Request that stands and is settled is a mark
 pub settled-asking : (t : Totals) → settled (asking t) ≡ marked t
@@ -52,10 +57,13 @@ pub counted-keeps : (dialect : Dialect) (t : Totals) (size : ℕ) → (counted d
 counted-keeps Am17xx t size = (refl, refl)
 counted-keeps Dm648 t size = (refl, refl)
 
--- put back: after a count, after a Request as before them; after a mark nothing changes
+-- put back: after a count, a number, a Request as before them; after a mark nothing changes
 pub put-back-counted : (dialect : Dialect) (t : Totals) (size : ℕ) → putBack (counted dialect t size) ≡ putBack t
 put-back-counted Am17xx t size = refl
 put-back-counted Dm648 t size = refl
+
+pub put-back-numbered : (t : Totals) → putBack (numbered t) ≡ putBack t
+put-back-numbered t = refl
 
 pub put-back-asking : (t : Totals) → putBack (asking t) ≡ putBack t
 put-back-asking t = refl
@@ -76,6 +84,25 @@ turned-settled command.JumpAndClose t other = settled-once t
 turned-settled command.Ping t other = settled-once t
 turned-settled command.SequentialRead t other = settled-once t
 
+-- what an opcode makes of the numbers goes by them alone
+settled-numbers : (a by : Totals) → settled (numberedAs a by) ≡ numberedAs (settled (numberedAs a by)) (settled by)
+settled-numbers a by =
+    by-test (by .asked)
+    (λ e. settles (numberedAs a by) e ∙ sym (ap₂ numberedAs (settles (numberedAs a by) e) (settles by e)))
+    (λ e. stays (numberedAs a by) e ∙ sym (ap₂ numberedAs (stays (numberedAs a by) e) (stays by e)))
+
+pub turned-numbers : (c : Command) (a by : Totals) → turned c (numberedAs a by) ≡ numberedAs (turned c (numberedAs a by)) (turned c by)
+turned-numbers command.Load a by = settled-numbers a by
+turned-numbers command.Fill a by = settled-numbers a by
+turned-numbers command.BootTable a by = settled-numbers a by
+turned-numbers command.Enable a by = refl
+turned-numbers command.Disable a by = settled-numbers a by
+turned-numbers command.Request a by = ap asking (settled-numbers a by)
+turned-numbers command.StartOver a by = refl
+turned-numbers command.JumpAndClose a by = settled-numbers a by
+turned-numbers command.Ping a by = settled-numbers a by
+turned-numbers command.SequentialRead a by = settled-numbers a by
+
 -- an Enable marks, and settling before it makes no difference
 pub enable-settles : (t : Totals) → turned command.Enable t ≡ marked (settled t)
 enable-settles t = sym (marked-settled t)
@@ -92,6 +119,15 @@ counts-on now size within = go (ltb most (now .sections .0 + 1)) (ltb most (now 
         → oneMore now size ≡ standing (now .sections .0 + 1) (now .bytes .0 + size)
     go true b e f h = absurd (true≢false h)
     go false b e f h = fits _ _ (ltb-false _ _ e) (ltb-false _ _ (f ∙ h))
+
+-- a number that is one and is not spent is followed by the next
+pub numbers-on : NumbersOn
+unfolding following
+numbers-on =
+    record {
+      one-more = λ t kept left. passed _ _ _ (ne-eqb _ _ kept) ∙ passed _ _ _ left;
+      below = λ t left. leb-false _ _ left;
+    }
 
 -- both tests hold where the refusal does not
 pub names-them : NamesThem

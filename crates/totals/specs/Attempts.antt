@@ -1,4 +1,4 @@
--- What an abandoned attempt leaves of the totals (02, request 5 and demand 3): nothing, where it begins at a point that a retry goes back to.
+-- What an abandoned attempt leaves of the totals and of the next number (02, requests 5 and 6, and demand 3): nothing, where it begins at a point that a retry goes back to.
 use Prim.Native.Nat.{ℕ}
 use mathlib.Core.Bool.{Bool, true, false}
 use mathlib.Core.List.{List, [], _∷_}
@@ -7,7 +7,7 @@ use Rattle.words.specs.Choice.{pick}
 use Rattle.script.specs.declared.Command.the-variants as command
 use Rattle.script.specs.declared.Dialect.{Dialect}
 use Rattle.script.specs.declared.Dialect.the-variants.{Dm648}
-use Rattle.totals.specs.Totals.{atOpening, counted, settled, turned}
+use Rattle.totals.specs.Totals.{atOpening, fromOne, counted, numbered, settled, turned}
 use Rattle.totals.specs.declared.Totals.{Totals}
 
 -- a command that writes: a load or a fill is a section of so many bytes, a setting is none
@@ -15,10 +15,10 @@ pub data Write : Type 0 where
   section : ℕ → Write
   setting : Write
 
--- such a command in sent mode, its opcode taken and itself accepted
+-- such a command in sent mode, its opcode taken and itself accepted: it takes a number
 abbrev pub wrote : Dialect → Totals → Write → Totals
-wrote dialect t (section size) = counted dialect (turned command.Load t) size
-wrote dialect t setting = turned command.BootTable t
+wrote dialect t (section size) = numbered (counted dialect (turned command.Load t) size)
+wrote dialect t setting = numbered (turned command.BootTable t)
 
 -- several, one after the other
 unfoldable pub wroteAll : Dialect → Totals → List Write → Totals
@@ -30,9 +30,9 @@ abbrev pub abandoned : Dialect → Totals → List Write → Bool → Totals
 abandoned dialect t writes asked =
     turned command.StartOver (pick asked (turned command.Request (wroteAll dialect t writes)) (wroteAll dialect t writes))
 
--- where an attempt may begin: what stands now is the mark, once a Request that stands is settled
+-- where an attempt may begin: what stands now is the mark, and the next number its own, once a Request that stands is settled
 abbrev pub Level : Totals → Type 0
-Level t = settled t .now ≡ settled t .mark
+Level t = (settled t .now ≡ settled t .mark) × (settled t .next ≡ settled t .back)
 
 -- is it a Start-Over alone, directly after a Request?
 abbrev pub alone : Totals → List Write → Bool → Bool
@@ -53,6 +53,12 @@ pub record LevelThere : Type 0 where
   pub after-request : (t : Totals) → Level (turned command.Request t)
   pub after-start-over : (t : Totals) → Level (turned command.StartOver t)
   pub after-settling : (t : Totals) → Level t → Level (settled t)
+
+-- that the number is level is needed too: just after a setting the totals stand at their mark, and the number does not
+pub record SettingIsNotLevel : Type 0 where
+  pub stands : wrote Dm648 (fromOne atOpening) setting .now ≡ wrote Dm648 (fromOne atOpening) setting .mark
+  pub next : wrote Dm648 (fromOne atOpening) setting .next ≡ 2
+  pub left : abandoned Dm648 (wrote Dm648 (fromOne atOpening) setting) [] false .next ≡ 1
 
 -- that it is not alone is needed: a load of five bytes and a Request, then a Start-Over takes the load back
 abbrev pub fiveLoaded : Totals

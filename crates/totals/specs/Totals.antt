@@ -1,7 +1,8 @@
--- The running totals (02, request 5): what was loaded so far, what stood at the mark, and a Request that waits to be settled.
+-- The running totals (02, request 5): what was loaded so far, what stood at the mark, and a Request that waits to be settled; with them the number of the next
+-- command (request 6), which goes back as they do.
 use Prim.Native.Nat.{ℕ, _+_, _-_, _%_, _^_}
 use mathlib.Core.Bool.{Bool, true, false, not, _&&_, _||_}
-use lib.Dec.{ltb, eqb}
+use lib.Dec.{ltb, leb, eqb}
 use Rattle.words.specs.Choice.{pick}
 use Rattle.script.specs.declared.Command.{Command}
 use Rattle.script.specs.declared.Command.the-variants as command
@@ -20,9 +21,17 @@ standing sections bytes = record { sections = record { 0 = sections }; bytes = r
 abbrev pub nothing : Standing
 nothing = standing 0 0
 
--- at an opening
+-- at an opening that keeps no numbers
 abbrev pub atOpening : Totals
-atOpening = record { now = nothing; mark = nothing; asked = false }
+atOpening = record { now = nothing; mark = nothing; asked = false; next = 0; back = 0 }
+
+-- the same with the commands numbered from 1
+abbrev pub fromOne : Totals → Totals
+fromOne t = record { now = t .now; mark = t .mark; asked = t .asked; next = 1; back = 1 }
+
+-- some totals with the numbers of others, and with a Request as theirs
+abbrev pub numberedAs : Totals → Totals → Totals
+numberedAs t u = record { now = t .now; mark = t .mark; asked = u .asked; next = u .next; back = u .back }
 
 -- the largest total
 abbrev pub most : ℕ
@@ -51,15 +60,31 @@ abbrev pub oneMore : Standing → ℕ → Standing
 oneMore now size = standing ((now .sections .0 + 1) % 2 ^ 32) ((now .bytes .0 + size) % 2 ^ 32)
 
 abbrev pub withNow : Totals → Standing → Totals
-withNow t now = record { now = now; mark = t .mark; asked = t .asked }
+withNow t now = record { now = now; mark = t .mark; asked = t .asked; next = t .next; back = t .back }
 
 abbrev pub counted : Dialect → Totals → ℕ → Totals
 counted Am17xx t size = t
 counted Dm648 t size = withNow t (oneMore (t .now) size)
 
+-- the first number that no command gets
+abbrev pub firstSpent : ℕ
+firstSpent = 65536
+
+-- 25: would the next command get it?
+abbrev pub isSpent : Totals → Bool
+isSpent t = leb firstSpent (t .next)
+
+-- the number after a number: none after none, and a spent one stays
+unfoldable pub following : ℕ → ℕ
+following n = pick (eqb n 0) 0 (pick (leb firstSpent n) n (n + 1))
+
+-- an accepted load, fill or setting takes the next number
+abbrev pub numbered : Totals → Totals
+numbered t = record { now = t .now; mark = t .mark; asked = t .asked; next = following (t .next); back = t .back }
+
 -- an Enable, or a flash Request that matches: the mark is now
 abbrev pub marked : Totals → Totals
-marked t = record { now = t .now; mark = t .now; asked = false }
+marked t = record { now = t .now; mark = t .now; asked = false; next = t .next; back = t .next }
 
 -- the next opcode taken settles a Request, unless it is Start-Over
 abbrev pub settled : Totals → Totals
@@ -67,11 +92,11 @@ settled t = pick (t .asked) (marked t) t
 
 -- a sent Request, once taken, stands unsettled
 abbrev pub asking : Totals → Totals
-asking t = record { now = t .now; mark = t .mark; asked = true }
+asking t = record { now = t .now; mark = t .mark; asked = true; next = t .next; back = t .back }
 
 -- a Start-Over, or a flash seek: what stands now is what stood at the mark
 abbrev pub putBack : Totals → Totals
-putBack t = record { now = t .mark; mark = t .mark; asked = false }
+putBack t = record { now = t .mark; mark = t .mark; asked = false; next = t .back; back = t .back }
 
 -- an opcode that is taken in sent mode
 abbrev pub turned : Command → Totals → Totals
@@ -88,7 +113,8 @@ turned command.SequentialRead t = settled t
 
 -- a call that is accepted in flash mode, by what happened in it: a Request that matches marks, and a seek puts back
 abbrev pub inFlash : Dialect → Totals → Happening → Totals
-inFlash dialect t (happening.Section size) = counted dialect t size
+inFlash dialect t (happening.Section size) = numbered (counted dialect t size)
+inFlash dialect t happening.Setting = numbered t
 inFlash dialect t happening.Enable = marked t
 inFlash dialect t happening.Passed = marked t
 inFlash dialect t happening.Retried = putBack t

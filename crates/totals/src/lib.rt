@@ -1,6 +1,6 @@
-// The running totals of a session, their mark, and the Request that waits to be settled.
+// The running totals of a session and the numbers of its commands, their mark, and the Request that waits to be settled.
 ghost use mathlib.Core.Path.{_≡_};
-ghost use Rattle.totals.specs.Totals.{nothing, atOpening, isPast, wouldPass, isOther, differs, oneMore, withNow, counted, marked, settled, asking, putBack, turned, inFlash};
+ghost use Rattle.totals.specs.Totals.{nothing, atOpening, fromOne, isPast, wouldPass, isOther, differs, oneMore, withNow, counted, isSpent, following, numbered, marked, settled, asking, putBack, turned, inFlash};
 use script::Command;
 use script::Dialect;
 
@@ -16,17 +16,21 @@ pub struct Standing {
     pub bytes: Bytes,
 }
 
-// What stands now and what stood at the mark; `asked` while a Request stands unsettled.
+// What stands now and what stood at the mark; `asked` while a Request stands unsettled. `next` is the number of the next command, `back` what it was at the mark; both are 0 where
+// no numbers are kept.
 pub struct Totals {
     pub now: Standing,
     pub mark: Standing,
     pub asked: bool,
+    pub next: u32,
+    pub back: u32,
 }
 
-// What a flash call that is accepted may be to the totals: a load or a fill of so many bytes, an Enable, a Request that matches, one that leads to a retry, any
-// other command.
+// What a flash call that is accepted may be to the totals: a load or a fill of so many bytes, a setting, an Enable, a Request that matches, one that leads to a
+// retry, any other command.
 pub enum Happening {
     Section(u32),
+    Setting,
     Enable,
     Passed,
     Retried,
@@ -37,7 +41,10 @@ impl Totals {
     // The largest total.
     pub const MOST: u64 = 4294967295;
 
-    // At an opening.
+    // The first number that no command gets.
+    pub const SPENT: u32 = 65536;
+
+    // At an opening; no numbers are kept.
     pub fn zero() -> Totals
         ensures { λ r. ⌜ r ≡ atOpening ⌝ }
     {
@@ -45,7 +52,35 @@ impl Totals {
             now: nothing(),
             mark: nothing(),
             asked: false,
+            next: 0,
+            back: 0,
         }
+    }
+
+    // The same, the commands numbered from 1.
+    pub fn from_one(self) -> Totals
+        ensures { λ r. ⌜ r ≡ fromOne self ⌝ }
+    {
+        let mut first = self;
+        first.next = 1;
+        first.back = 1;
+        first
+    }
+
+    // Are the numbers spent?
+    pub fn is_spent(self) -> bool
+        ensures { λ r. ⌜ r ≡ isSpent self ⌝ }
+    {
+        Self::SPENT <= self.next
+    }
+
+    // The next number is taken.
+    pub fn number(self) -> Totals
+        ensures { λ r. ⌜ r ≡ numbered self ⌝ }
+    {
+        let mut later = self;
+        later.next = following(self.next);
+        later
     }
 
     // Does one more section of so many bytes take a total past the largest? Only a DM648 counts.
@@ -86,10 +121,13 @@ impl Totals {
         ensures { λ r. ⌜ r ≡ marked self ⌝ }
     {
         let now = self.now;
+        let next = self.next;
         Totals {
             now,
             mark: now,
             asked: false,
+            next,
+            back: next,
         }
     }
 
@@ -113,6 +151,8 @@ impl Totals {
             now,
             mark: stood,
             asked: true,
+            next: self.next,
+            back: self.back,
         }
     }
 
@@ -121,10 +161,13 @@ impl Totals {
         ensures { λ r. ⌜ r ≡ putBack self ⌝ }
     {
         let mark = self.mark;
+        let back = self.back;
         Totals {
             now: mark,
             mark,
             asked: false,
+            next: back,
+            back,
         }
     }
 
@@ -151,7 +194,8 @@ impl Totals {
         ensures { λ r. ⌜ r ≡ inFlash dialect self happening ⌝ }
     {
         match happening {
-            Happening::Section(size) => self.count(dialect, size),
+            Happening::Section(size) => self.count(dialect, size).number(),
+            Happening::Setting => self.number(),
             Happening::Enable => self.mark(),
             Happening::Passed => self.mark(),
             Happening::Retried => self.put_back(),
@@ -206,6 +250,19 @@ fn one_more(now: Standing, size: u32) -> Standing
         sections: Sections(std::num::wrapping_add_u32(sections.0, 1)),
         bytes: Bytes(std::num::wrapping_add_u32(bytes.0, size)),
     }
+}
+
+// The number after a number: none after none, and a spent one stays.
+fn following(number: u32) -> u32
+    ensures { λ r. ⌜ r ≡ following number ⌝ }
+{
+    if number == 0 {
+        return 0;
+    }
+    if Totals::SPENT <= number {
+        return number;
+    }
+    number + 1
 }
 
 // The same mark, with something else standing now.

@@ -118,11 +118,13 @@ fn opening(dialect: Dialect, setting: Setting, image: &[u8]) -> Called {
     let opened = Session::open(dialect, 1, windows, image, setting.limit);
     let refusal = opened.refusal;
     let session = opened.session;
+    let wrote = commands::wrote_none();
     Called {
         refusal,
         event: Event::Nothing,
         at: 0,
         session,
+        wrote,
     }
 }
 
@@ -160,7 +162,12 @@ pub fn show_end(last: Called) {
     text::number_line(b"at=", last.at as u64);
     text::word_line(b"entry=", event.value());
     text::word_line(b"crc=", last.session.register);
-    text::number_line(b"retries=", last.session.retries as u64);
+    show_retries(last.session.retries);
+}
+
+// The last of them.
+fn show_retries(retries: u8) {
+    text::number_line(b"retries=", retries as u64);
 }
 
 // Opens and calls, and shows requests, end and memory.

@@ -1,6 +1,5 @@
--- `bench::report` meets its contract: each part is below the next one's unit, so that no shift and no sum wraps.
+-- `bench::report` meets its contract: the four numbers are those of the answer.
 use borrow.Author.Needs.{needs}
-use native.Mathlib.Omega.{arith}
 use Rattle.bench.specs.Runs.{reported}
 use Rattle.bench.proofs.report.Statement.{statement}
 use Rattle.bench.proofs.report.Tie as tie
@@ -8,41 +7,12 @@ use Rattle.bench.proofs.report.Tie as tie
 number-requires : tie.Need-number-requires
 number-requires c κs = search needs
 
-cast-number : tie.Need-cast-number
-cast-number c = search needs
-
-cast-retries : tie.Need-cast-retries
-cast-retries c = search needs
-
-cast-words : tie.Need-cast-words
-cast-words c = search needs
-
-add-result : tie.Need-add-result
-add-result c = search needs
-
-add-result-2 : tie.Need-add-result-2
-add-result-2 c = search needs
-
-cast-result : tie.Need-cast-result
-cast-result c = search needs
-
-add-result-3 : tie.Need-add-result-3
-add-result-3 c = search needs
+pack-requires : tie.Need-pack-requires
+pack-requires c κs = c .before .pre
 
 returns : tie.Need-returns
 unfolding reported
-returns c = omega (arith, c .before .before .before .number .ensures)
+returns c = rw (c .before .number .ensures) at (c .pack .ensures)
 
 pub report-spec : {M : Type 1} → statement M
-report-spec =
-    tie.close
-    (tie.spec
-    number-requires
-    cast-number
-    cast-retries
-    cast-words
-    add-result
-    add-result-2
-    cast-result
-    add-result-3
-    returns)
+report-spec = tie.close (tie.spec number-requires pack-requires returns)

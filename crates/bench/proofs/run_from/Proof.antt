@@ -11,6 +11,12 @@ use Rattle.bench.proofs.run_from.Tie as tie
 number-requires : tie.Need-number-requires
 number-requires c κs = search needs
 
+slice-aggregate-run : tie.Need-slice-aggregate-run
+slice-aggregate-run c = search needs
+
+slice-aggregate-run-2 : tie.Need-slice-aggregate-run-2
+slice-aggregate-run-2 c = search needs
+
 run-requires : tie.Need-run-requires
 run-requires c κs = search needs
 
@@ -20,14 +26,17 @@ same-length c = search needs
 returns : tie.Need-returns
 unfolding ranFrom
 returns c =
-    let ran = sym (chosen _ _ _ (eq-eqb _ _ (sym (c .before .before .before .before .before .number .ensures) ∙ c .before .before .before .before .if1 .taken))) in
-    (c .before .before .run .ensures .0 ∙ ap (λ (o : Outcome). o .answer) ran, c .before .before .run .ensures .1 ∙ ap (λ (o : Outcome). o .memory) ran)
+    let ran = sym (chosen _ _ _ (eq-eqb _ _ (sym (c .before .before .before .before .before .before .before .before .number .ensures) ∙ c .before .before .before .before .before .before .before .if1 .taken))) in
+    (c .before .before .before .run .ensures .0 ∙ ap (λ (o : Outcome). o .answer) ran, c .before .before .before .run .ensures .1 .0 ∙ ap (λ (o : Outcome). o .memory) ran)
+
+wrote-none-requires : tie.Need-wrote-none-requires
+wrote-none-requires c κs = search needs
 
 returns-2 : tie.Need-returns-2
 unfolding ranFrom
 returns-2 c =
-    let none = sym (passed _ _ _ (ne-eqb _ _ (λ e. c .if1 .left (c .before .number .ensures ∙ e)))) in
-    (ap (λ (o : Outcome). o .answer) none, ap (λ (o : Outcome). o .memory) none)
+    let none = sym (passed _ _ _ (ne-eqb _ _ (λ e. c .before .if1 .left (c .before .before .number .ensures ∙ e)))) in
+    rw (c .wrote-none .ensures) ((ap (λ (o : Outcome). o .answer) none, ap (λ (o : Outcome). o .memory) none))
 
 pub run-from-spec : {M : Type 1} → statement M
-run-from-spec = tie.close (tie.spec number-requires run-requires same-length returns returns-2)
+run-from-spec = tie.close (tie.spec number-requires slice-aggregate-run slice-aggregate-run-2 run-requires same-length returns wrote-none-requires returns-2)

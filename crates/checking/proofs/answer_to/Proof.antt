@@ -16,14 +16,17 @@ slice-aggregate-run c = search needs
 run-requires : tie.Need-run-requires
 run-requires c κs = search needs
 
+wrote-none-requires : tie.Need-wrote-none-requires
+wrote-none-requires c κs = search needs
+
 returns : tie.Need-returns
 unfolding lastAnswer
 returns c = c .before .run .ensures .0 ∙ sym (chosen _ _ _ (eq-eqb _ _ (sym (c .before .before .before .before .number .ensures) ∙ c .before .before .before .if1 .taken)))
 
 returns-2 : tie.Need-returns-2
 unfolding lastAnswer
-returns-2 c = sym (passed _ _ _ (ne-eqb _ _ (rw (c .before .number .ensures) at (c .if1 .left))))
+returns-2 c = rw (c .wrote-none .ensures) (sym (passed _ _ _ (ne-eqb _ _ (rw (c .before .before .number .ensures) at (c .before .if1 .left)))))
 
 pub answer-to-spec : {M : Type 1} → statement M
 answer-to-spec =
-    tie.close (tie.spec number-requires slice-aggregate-run run-requires returns returns-2)
+    tie.close (tie.spec number-requires slice-aggregate-run run-requires returns wrote-none-requires returns-2)

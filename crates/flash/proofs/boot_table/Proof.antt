@@ -3,6 +3,7 @@ use borrow.Author.Needs.{needs}
 use mathlib.Core.Path.{ap, _∙_}
 use denote.Ref.{now}
 use Rattle.flash.specs.Sessions.{Outcome}
+use Rattle.flash.specs.Step.{outOfNumbers}
 use Rattle.flash.proofs.Cases.{setting-read}
 use Rattle.flash.proofs.boot_table.Statement.{statement}
 use Rattle.flash.proofs.boot_table.Tie as tie
@@ -22,8 +23,14 @@ argument-word-requires-4 c κs = search needs
 judge-setting-requires : tie.Need-judge-setting-requires
 judge-setting-requires c κs = search needs
 
+out-of-numbers-requires : tie.Need-out-of-numbers-requires
+out-of-numbers-requires c κs = search needs
+
 boot-table-requires : tie.Need-boot-table-requires
 boot-table-requires c κs = search needs
+
+wrote-setting-requires : tie.Need-wrote-setting-requires
+wrote-setting-requires c κs = search needs
 
 finish-requires : tie.Need-finish-requires
 finish-requires c κs = search needs
@@ -32,11 +39,12 @@ same-length : tie.Need-same-length
 same-length c = search needs
 
 returns : tie.Need-returns
-returns c = let a = c .before .before .before .before .before .before .before .before .before .before .before .before .before .args in
-    let read = setting-read (a .session) (now (a .memory)) (now (a .image)) (c .before .before .before .before .before .before .before .before .before .before .argument-word .ensures) (c .before .before .before .before .before .before .before .before .before .argument-word2 .ensures)
-    (c .before .before .before .before .before .before .before .before .argument-word3 .ensures) (c .before .before .before .before .before .before .before .argument-word4 .ensures) (c .before .before .before .before .before .judge-setting .ensures) in (
-      rw (c .finish .ensures, c .before .before .before .boot-table .ensures .0) (ap (λ (o : Outcome). o .answer) read),
-      c .before .before .before .boot-table .ensures .1 ∙ ap (λ (o : Outcome). o .memory) read,
+returns c = let a = c .before .before .before .before .before .before .before .before .before .before .before .before .before .before .before .before .args in
+    let judged = c .before .before .before .before .before .before .before .out-of-numbers .ensures ∙ ap (outOfNumbers (a .session)) (c .before .before .before .before .before .before .before .before .judge-setting .ensures) in
+    let read = setting-read (a .session) (now (a .memory)) (now (a .image)) (c .before .before .before .before .before .before .before .before .before .before .before .before .before .argument-word .ensures) (c .before .before .before .before .before .before .before .before .before .before .before .before .argument-word2 .ensures)
+    (c .before .before .before .before .before .before .before .before .before .before .before .argument-word3 .ensures) (c .before .before .before .before .before .before .before .before .before .before .argument-word4 .ensures) judged in (
+      rw (c .finish .ensures, c .before .wrote-setting .ensures, c .before .before .before .before .before .boot-table .ensures .0) (ap (λ (o : Outcome). o .answer) read),
+      c .before .before .before .before .before .boot-table .ensures .1 ∙ ap (λ (o : Outcome). o .memory) read,
     )
 
 pub boot-table-spec : {M : Type 1} → statement M
@@ -48,7 +56,9 @@ boot-table-spec =
     argument-word-requires-3
     argument-word-requires-4
     judge-setting-requires
+    out-of-numbers-requires
     boot-table-requires
+    wrote-setting-requires
     finish-requires
     same-length
     returns)

@@ -9,11 +9,14 @@ add-moved c = search needs
 moved-requires : tie.Need-moved-requires
 moved-requires c κs = search needs
 
+wrote-none-requires : tie.Need-wrote-none-requires
+wrote-none-requires c κs = search needs
+
 proceed-requires : tie.Need-proceed-requires
 proceed-requires c κs = search needs
 
 returns : tie.Need-returns
-returns c = rw (c .proceed .ensures, c .before .moved .ensures)
+returns c = rw (c .proceed .ensures, c .before .wrote-none .ensures, c .before .before .moved .ensures)
 
 pub disable-spec : {M : Type 1} → statement M
-disable-spec = tie.close (tie.spec add-moved moved-requires proceed-requires returns)
+disable-spec = tie.close (tie.spec add-moved moved-requires wrote-none-requires proceed-requires returns)

@@ -22,6 +22,9 @@ differ-requires c κs = search needs
 bar-requires : tie.Need-bar-requires
 bar-requires c κs = search needs
 
+wrote-none-requires : tie.Need-wrote-none-requires
+wrote-none-requires c κs = search needs
+
 jump-and-close-requires : tie.Need-jump-and-close-requires
 jump-and-close-requires c κs = search needs
 
@@ -29,10 +32,10 @@ close-words-requires : tie.Need-close-words-requires
 close-words-requires c κs = search needs
 
 finish-requires : tie.Need-finish-requires
-finish-requires c κs = omega (arith, c .before .before .before .before .before .before .before .pre, c .close-words .ensures, few (c .before .before .before .before .before .before .before .args .session .dialect))
+finish-requires c κs = omega (arith, c .before .before .before .before .before .before .before .before .pre, c .close-words .ensures, few (c .before .before .before .before .before .before .before .before .args .session .dialect))
 
 returns : tie.Need-returns
-returns c = rw (c .before .finish .ensures, c .before .before .close-words .ensures, c .before .before .before .jump-and-close .ensures, c .before .before .before .before .bar .ensures, c .before .before .before .before .before .differ .ensures, c .before .before .before .before .before .before .judge-entry .ensures)
+returns c = rw (c .before .before .finish .ensures, c .before .before .before .close-words .ensures, c .before .before .before .before .jump-and-close .ensures, c .before .before .before .before .before .wrote-none .ensures, c .before .before .before .before .before .before .bar .ensures, c .before .before .before .before .before .before .before .differ .ensures, c .before .before .before .before .before .before .before .before .judge-entry .ensures)
 
 pub jump-and-close-spec : {M : Type 1} → statement M
 jump-and-close-spec =
@@ -41,6 +44,7 @@ jump-and-close-spec =
     judge-entry-requires
     differ-requires
     bar-requires
+    wrote-none-requires
     jump-and-close-requires
     close-words-requires
     finish-requires

@@ -1,4 +1,4 @@
--- `flash::load_at` meets its contract: the end of the data words is compared with the image's, and the part lent to the copy is the data.
+-- `flash::load_at` meets its contract: the end of the data words is compared with the image's, then a number looked for, and the part lent to the copy is the data.
 use borrow.Author.Needs.{needs}
 use Prim.Native.Nat.{ℕ, _+_, _-_}
 use mathlib.Core.List.{List}
@@ -9,7 +9,7 @@ use lib.ListN.{take, drop}
 use denote.Ref.{now}
 use Rattle.words.specs.Bytes.{bytesAt}
 use Rattle.flash.specs.Sessions.{Outcome}
-use Rattle.flash.proofs.Cases.{load-short, load-whole}
+use Rattle.flash.proofs.Cases.{load-short, load-spent, load-whole}
 use Rattle.flash.proofs.load_at.Statement.{statement}
 use Rattle.flash.proofs.load_at.Tie as tie
 
@@ -41,6 +41,17 @@ returns c = let a = c .before .before .before .before .before .args in
     let short = load-short (a .session) (now (a .memory)) (now (a .image)) (a .address) (a .size) (a .place) (c .before .if1 .taken) in
     (c .halt .ensures ∙ sym (ap (λ (o : Outcome). o .answer) short), sym (ap (λ (o : Outcome). o .memory) short))
 
+is-spent-requires : tie.Need-is-spent-requires
+is-spent-requires c κs = search needs
+
+halt-requires-2 : tie.Need-halt-requires-2
+halt-requires-2 c κs = search needs
+
+returns-2 : tie.Need-returns-2
+returns-2 c = let a = c .before .before .before .before .before .before .before .before .args in
+    let spent = load-spent (a .session) (now (a .memory)) (now (a .image)) (a .address) (a .size) (a .place) (c .before .before .before .before .if1 .left) (sym (c .before .before .is-spent .ensures) ∙ c .before .if2 .taken) in
+    (c .halt2 .ensures ∙ sym (ap (λ (o : Outcome). o .answer) spent), sym (ap (λ (o : Outcome). o .memory) spent))
+
 add-to : tie.Need-add-to
 add-to c = search needs
 
@@ -56,30 +67,17 @@ part-load-end c = search needs
 load-requires : tie.Need-load-requires
 load-requires c κs = search needs
 
-cast-fetch : tie.Need-cast-fetch
-cast-fetch c = search needs
-
-fetch-requires : tie.Need-fetch-requires
-fetch-requires c κs = search needs
-
-cast-moved : tie.Need-cast-moved
-cast-moved c = omega (arith, c .before .before .before .before .before .before .if1 .left, c .before .before .before .before .before .before .before .before .before .before .pre)
-
-moved-requires : tie.Need-moved-requires
-moved-requires c κs = search needs
-
-proceed-requires : tie.Need-proceed-requires
-proceed-requires c κs = search needs
+load-answer-requires : tie.Need-load-answer-requires
+load-answer-requires c κs = omega (arith, c .before .before .before .before .before .before .before .before .if1 .left, c .before .before .before .before .before .before .before .before .before .before .before .before .pre)
 
 same-length : tie.Need-same-length
 same-length c = search needs
 
-returns-2 : tie.Need-returns-2
-returns-2 c = let a = c .before .before .before .before .before .before .before .before .before .before .before .before .args in
-    let whole = load-whole (a .session) (now (a .memory)) (now (a .image)) (a .address) (a .size) (a .place) (c .before .before .before .before .before .before .before .before .if1 .left) in
-    let done = rw (part (now (a .image)) (a .session .offset + 12) (a .size)) at (c .before .before .before .before .before .load .ensures) in (
-      rw (c .proceed .ensures, c .before .moved .ensures, c .before .before .fetch .ensures, done .0)
-          (sym (ap (λ (o : Outcome). o .answer) whole)),
+returns-3 : tie.Need-returns-3
+returns-3 c = let a = c .before .before .before .before .before .before .before .before .before .before .before .before .before .args in
+    let whole = load-whole (a .session) (now (a .memory)) (now (a .image)) (a .address) (a .size) (a .place) (c .before .before .before .before .before .before .before .before .before .if1 .left) (sym (c .before .before .before .before .before .before .before .is-spent .ensures) ∙ c .before .before .before .before .before .before .if2 .left) in
+    let done = rw (part (now (a .image)) (a .session .offset + 12) (a .size)) at (c .before .before .before .load .ensures) in (
+      rw (c .load-answer .ensures, done .0) (sym (ap (λ (o : Outcome). o .answer) whole)),
       done .1 ∙ sym (ap (λ (o : Outcome). o .memory) whole),
     )
 
@@ -94,15 +92,14 @@ load-at-spec =
     add-end
     halt-requires
     returns
+    is-spent-requires
+    halt-requires-2
+    returns-2
     add-to
     sub-load
     part-load-start
     part-load-end
     load-requires
-    cast-fetch
-    fetch-requires
-    cast-moved
-    moved-requires
-    proceed-requires
+    load-answer-requires
     same-length
-    returns-2)
+    returns-3)

@@ -3,6 +3,9 @@ use borrow.Author.Needs.{needs}
 use Rattle.flash.proofs.pass_over.Statement.{statement}
 use Rattle.flash.proofs.pass_over.Tie as tie
 
+wrote-none-requires : tie.Need-wrote-none-requires
+wrote-none-requires c κs = search needs
+
 add-moved : tie.Need-add-moved
 add-moved c = search needs
 
@@ -13,7 +16,7 @@ proceed-requires : tie.Need-proceed-requires
 proceed-requires c κs = search needs
 
 returns : tie.Need-returns
-returns c = rw (c .proceed .ensures, c .before .moved .ensures)
+returns c = rw (c .proceed .ensures, c .before .moved .ensures, c .before .before .before .wrote-none .ensures)
 
 pub pass-over-spec : {M : Type 1} → statement M
-pass-over-spec = tie.close (tie.spec add-moved moved-requires proceed-requires returns)
+pass-over-spec = tie.close (tie.spec wrote-none-requires add-moved moved-requires proceed-requires returns)

@@ -13,13 +13,16 @@ add-moved c = search needs
 moved-requires : tie.Need-moved-requires
 moved-requires c κs = search needs
 
+wrote-none-requires : tie.Need-wrote-none-requires
+wrote-none-requires c κs = search needs
+
 proceed-requires : tie.Need-proceed-requires
 proceed-requires c κs = search needs
 
 returns : tie.Need-returns
 unfolding requested
-returns c = rw (c .proceed .ensures, c .before .moved .ensures)
-    (sym (chosen _ _ _ (eq-eqb _ _ (c .before .before .before .if1 .taken))))
+returns c = rw (c .proceed .ensures, c .before .wrote-none .ensures, c .before .before .moved .ensures)
+    (sym (chosen _ _ _ (eq-eqb _ _ (c .before .before .before .before .if1 .taken))))
 
 moved-requires-2 : tie.Need-moved-requires-2
 moved-requires-2 c κs = search needs
@@ -45,6 +48,7 @@ request-spec =
     (tie.spec
     add-moved
     moved-requires
+    wrote-none-requires
     proceed-requires
     returns
     moved-requires-2

@@ -17,6 +17,9 @@ moved-requires c κs = search needs
 add-next : tie.Need-add-next
 add-next c = search needs
 
+wrote-none-requires : tie.Need-wrote-none-requires
+wrote-none-requires c κs = search needs
+
 proceed-requires : tie.Need-proceed-requires
 proceed-requires c κs = search needs
 
@@ -30,7 +33,7 @@ halt-requires : tie.Need-halt-requires
 halt-requires c κs = search needs
 
 returns : tie.Need-returns
-returns c = rw (c .proceed .ensures, c .before .before .moved .ensures) (ap (soughtAs (c .before .before .before .before .before .before .before .args .session)) (sym (c .before .before .before .before .led .given .1) ∙ c .before .before .before .before .before .before .seek .ensures))
+returns c = rw (c .proceed .ensures, c .before .wrote-none .ensures, c .before .before .before .moved .ensures) (ap (soughtAs (c .before .before .before .before .before .before .before .before .args .session)) (sym (c .before .before .before .before .before .led .given .1) ∙ c .before .before .before .before .before .before .before .seek .ensures))
 
 returns-2 : tie.Need-returns-2
 returns-2 c = rw (c .halt .ensures, c .before .moved2 .ensures) (ap (soughtAs (c .before .before .before .before .before .before .args .session)) (sym (c .before .before .before .led2 .given .1) ∙ c .before .before .before .before .before .seek .ensures))
@@ -43,6 +46,7 @@ retry-spec =
     enum-known-led
     moved-requires
     add-next
+    wrote-none-requires
     proceed-requires
     enum-known-led-2
     moved-requires-2

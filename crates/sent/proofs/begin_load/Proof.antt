@@ -1,4 +1,4 @@
--- `sent::begin_load` meets its contract: each arm is one case of the judgement, 18 among it; a range that is granted ends inside the memory.
+-- `sent::begin_load` meets its contract: each arm is one case of the judgement, 18 and 25 among it; a range that is granted ends inside the memory.
 use borrow.Author.Needs.{needs}
 use mathlib.Core.Path.{sym, ap, _∙_}
 use Rattle.commands.specs.declared.Judged.{Judged}
@@ -23,7 +23,7 @@ feed-head-requires c κs = search needs
 end-of-requires : tie.Need-end-of-requires
 end-of-requires c κs =
     let judged = rw (c .before .before .before .before .before .before .judge-load .ensures) at (c .before .before .before .before .before .judge-count .ensures) in
-    granted-inside _ (c .before .before .before .before .before .before .before .before .args .address) _ _ (granted-before _ _ _ _ (sym judged ∙ c .before .before .before .judged .given .1) .1)
+    granted-inside _ (c .before .before .before .before .before .before .before .before .args .address) _ _ (granted-before _ _ _ _ (granted-before _ _ _ _ (sym judged ∙ c .before .before .before .judged .given .1) .1) .1)
 
 data-phase-requires : tie.Need-data-phase-requires
 data-phase-requires c κs = search needs

@@ -18,16 +18,31 @@ count-on-requires c κs = search needs
 finish-requires : tie.Need-finish-requires
 finish-requires c κs = search needs
 
+wrote-bytes-requires : tie.Need-wrote-bytes-requires
+wrote-bytes-requires c κs = search needs
+
+tell-wrote-requires : tie.Need-tell-wrote-requires
+tell-wrote-requires c κs = search needs
+
 same-length : tie.Need-same-length
 same-length c = search needs
 
 returns : tie.Need-returns
 returns c =
-    let judged = rw (c .before .before .before .before .before .before .before .judge-fill .ensures) at (c .before .before .before .before .before .before .judge-count .ensures) in
-    let done = rw judged at (c .before .before .before .before .fill .ensures) in
-    (rw (done .0, c .before .count-on .ensures) at (c .finish .ensures), done .1)
+    let judged = rw (c .before .before .before .before .before .before .before .before .before .before .judge-fill .ensures) at (c .before .before .before .before .before .before .before .before .before .judge-count .ensures) in
+    let done = rw judged at (c .before .before .before .before .before .before .before .fill .ensures) in
+    (rw (c .before .wrote-bytes .ensures, c .before .before .finish .ensures, done .0, c .before .before .before .count-on .ensures, judged) at (c .tell-wrote .ensures), done .1)
 
 pub fill-spec : {M : Type 1} → statement M
 fill-spec =
     tie.close
-    (tie.spec judge-fill-requires judge-count-requires fill-requires count-on-requires finish-requires same-length returns)
+    (tie.spec
+    judge-fill-requires
+    judge-count-requires
+    fill-requires
+    count-on-requires
+    finish-requires
+    wrote-bytes-requires
+    tell-wrote-requires
+    same-length
+    returns)

@@ -16,11 +16,14 @@ silent-requires c κs = search needs
 moved-requires : tie.Need-moved-requires
 moved-requires c κs = search needs
 
+wrote-none-requires : tie.Need-wrote-none-requires
+wrote-none-requires c κs = search needs
+
 returns : tie.Need-returns
 unfolding after
 returns c =
-    rw (c .moved .ensures, c .before .silent .ensures)
-    (sym (chosen _ _ _ (eq-eqb _ _ (sym (c .before .before .before .number .ensures) ∙ c .before .before .if1 .taken))))
+    rw (c .wrote-none .ensures, c .before .moved .ensures, c .before .before .silent .ensures)
+    (sym (chosen _ _ _ (eq-eqb _ _ (sym (c .before .before .before .before .number .ensures) ∙ c .before .before .before .if1 .taken))))
 
 refuse-requires : tie.Need-refuse-requires
 refuse-requires c κs = search needs
@@ -32,4 +35,4 @@ returns-2 c = c .refuse .ensures ∙ sym (passed _ _ _ (ne-eqb _ _ (rw (c .befor
 pub finish-spec : {M : Type 1} → statement M
 finish-spec =
     tie.close
-    (tie.spec number-requires silent-requires moved-requires returns refuse-requires returns-2)
+    (tie.spec number-requires silent-requires moved-requires wrote-none-requires returns refuse-requires returns-2)

@@ -9,8 +9,11 @@ would-pass-requires c κs = search needs
 bar-requires : tie.Need-bar-requires
 bar-requires c κs = search needs
 
+judge-number-requires : tie.Need-judge-number-requires
+judge-number-requires c κs = search needs
+
 returns : tie.Need-returns
-returns c = rw (c .bar .ensures, c .before .would-pass .ensures)
+returns c = rw (c .judge-number .ensures, c .before .bar .ensures, c .before .before .would-pass .ensures)
 
 pub judge-count-spec : {M : Type 1} → statement M
-judge-count-spec = tie.close (tie.spec would-pass-requires bar-requires returns)
+judge-count-spec = tie.close (tie.spec would-pass-requires bar-requires judge-number-requires returns)

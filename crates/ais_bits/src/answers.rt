@@ -1,0 +1,198 @@
+// What is told of a run and of a chosen word, a line each.
+use crate::text;
+use bits::Deed;
+use bits::Kind;
+use bits::Names;
+use bits::Part;
+use bits::Word;
+use register::Found;
+
+// How the run ended.
+pub fn outcome(entered: bool, code: u8, at: u32) {
+    if entered {
+        text::put(b"outcome=entered");
+    } else {
+        text::put(b"outcome=refused");
+    }
+    text::put_number(b" code=", code as u32);
+    text::put_number(b" at=", at);
+    text::put(b"\n");
+}
+
+// The last bit before one.
+fn last_before(end: u32) -> u32 {
+    if end == 0 {
+        return 0;
+    }
+    end - 1
+}
+
+// What a command is.
+fn put_deed(deed: Deed) {
+    let kind = deed.kind;
+    match kind {
+        Kind::Load => text::put(b" load"),
+        Kind::Fill => text::put(b" fill"),
+        Kind::Setting => text::put_bits(b" setting=", deed.from, last_before(deed.to)),
+        Kind::Other => text::put(b" unknown"),
+    }
+}
+
+// A command by its number, its offset and what it is.
+fn put_command(number: u32, at: u32, deed: Deed) {
+    text::put_number(b" command=", number);
+    text::put_number(b" at=", at);
+    put_deed(deed);
+}
+
+// The field of some bits, a dash for none.
+fn put_field(field: Found) {
+    if !field.found {
+        return text::put(b" field=-");
+    }
+    let line = field.line;
+    let name = line.name;
+    text::put_name(b" field=", name);
+}
+
+// A line of bits of which the same is told; the field only where a register was given.
+fn put_part(image: &[u8], named: bool, address: u32, part: Part) {
+    let told = part.told;
+    let field = told.field;
+    text::put_bits(b"bits=", part.start, part.stop);
+    text::put_number(b" value=", part.value);
+    if named {
+        put_field(field);
+    }
+    if told.number == 0 {
+        return text::put(b" never written\n");
+    }
+    put_command(told.number, told.at, bits::deed_at(image, told.at, address));
+    text::put(b"\n");
+}
+
+// The lines of a word.
+fn put_parts(
+    image: &[u8],
+    value: u32,
+    numbers: &[u8],
+    offsets: &[u8],
+    names: Names,
+    named: bool,
+    word: Word,
+) {
+    let mut bit: u32 = 0;
+    while bit < 32 {
+        let part = bits::part_from(value, numbers, offsets, names, word, bit);
+        put_part(image, named, word.address, part);
+        if part.stop < bit {
+            return;
+        }
+        if 31 <= part.stop {
+            return;
+        }
+        bit = part.stop + 1;
+    }
+}
+
+// A field, and whether a command writes all of it.
+fn put_written(field: Found, deed: Deed) {
+    let line = field.line;
+    let name = line.name;
+    if bits::reaches_out(line, deed.from, deed.to) {
+        text::put(b"part of ");
+    } else {
+        text::put(b"all of ");
+    }
+    text::put_name(b"", name);
+    text::put_bits(b" ", line.start, line.stop);
+}
+
+// The fields that a command writes.
+fn put_fields(names: Names, address: u32, deed: Deed) {
+    let mut bit = bits::first_field(names, address, deed.from, deed.to);
+    while bit < deed.to {
+        let field = bits::field_at(names, address, bit);
+        put_written(field, deed);
+        let next = bits::other_field(names, address, field, bit + 1, deed.to);
+        if next <= bit {
+            return;
+        }
+        if next < deed.to {
+            text::put(b", ");
+        }
+        bit = next;
+    }
+}
+
+// Points out a command that writes two fields, or a field only in part.
+fn put_warning(image: &[u8], number: u32, at: u32, names: Names, address: u32) {
+    let deed = bits::deed_at(image, at, address);
+    let two = bits::two_fields(names, address, deed);
+    let cut = bits::cut_field(names, address, deed);
+    if !two && !cut {
+        return;
+    }
+    text::put(b"warning:");
+    put_command(number, at, deed);
+    text::put(b" writes ");
+    put_fields(names, address, deed);
+    text::put(b"\n");
+}
+
+// Looks at the command of a bit, where the bit is the lowest that it wrote last.
+fn look_at(image: &[u8], numbers: &[u8], offsets: &[u8], names: Names, word: Word, bit: u32) {
+    let number = bits::entry(numbers, word.index, bit);
+    if number == 0 {
+        return;
+    }
+    if !bits::is_first(numbers, offsets, word.index, bit) {
+        return;
+    }
+    let at = bits::entry(offsets, word.index, bit);
+    put_warning(image, number, at, names, word.address);
+}
+
+// The commands of a word that are to be pointed out.
+fn put_warnings(image: &[u8], numbers: &[u8], offsets: &[u8], names: Names, word: Word) {
+    let mut bit: u32 = 0;
+    while bit < 32 {
+        look_at(image, numbers, offsets, names, word, bit);
+        bit += 1;
+    }
+}
+
+// All that is told of a word.
+pub fn word(
+    image: &[u8],
+    value: u32,
+    numbers: &[u8],
+    offsets: &[u8],
+    names: Names,
+    named: bool,
+    word: Word,
+) {
+    text::put_word(b"word=", word.address);
+    text::put_word(b" value=", value);
+    text::put(b"\n");
+    put_parts(image, value, numbers, offsets, names, named, word);
+    put_warnings(image, numbers, offsets, names, word);
+}
+
+// A register that is refused, by its number and the line.
+pub fn refused_register(number: u8, line: usize) {
+    text::put_number(b"refusal=", number as u32);
+    text::put(b" line ");
+    io::print_decimal(libc::STDOUT_FILENO, line as u64);
+    match number {
+        26 => text::put(b" of the register is malformed, or beyond the 200th\n"),
+        _ => text::put(b" of the register clashes with an earlier one\n"),
+    }
+}
+
+// Words that are refused.
+pub fn refused_words() {
+    text::put(
+        b"refusal=24 more than 64 words, or one that is no multiple of 4, is named twice, or does not lie in the window\n",
+    );
+}

@@ -1,0 +1,56 @@
+-- What a flash run with numbers comes to, by the facts that it asks.
+use Prim.Native.Nat.{ℕ, _≤_, _<_}
+use mathlib.Core.Bool.{not}
+use mathlib.Core.List.{List}
+use mathlib.Core.Logic.{_≢_}
+use mathlib.Core.Path.{_≡_, ap}
+use lib.ListN.{length}
+use borrow.Author.Tests.{eq-eqb, ne-eqb, lt-ltb, le-ltb}
+use Rattle.words.proofs.Choice.{chosen, passed}
+use Rattle.windows.specs.Window.{sumOf}
+use Rattle.script.specs.Answers.{numberOf}
+use Rattle.script.specs.declared.Refusal.{Refusal}
+use Rattle.script.specs.declared.Refusal.the-variants as refusal
+use Rattle.flash.specs.Opening.{openedBy, numberingFrom}
+use Rattle.flash.specs.declared.Opened.{Opened}
+use Rattle.runs.specs.Run.{runOf}
+use Rattle.chosen.specs.declared.Choice.{Choice}
+use Rattle.watched.specs.Watched.{runEntries}
+use Rattle.maps.specs.Map.{windowsOf, countOf}
+use Rattle.feeding.specs.Numbers.{cleared, choiceOn, placesIn, barred, dialectOf}
+use Rattle.bench.specs.Bits.{Noted, unrun, bitsFrom, bitsRun}
+use Rattle.bench.specs.Runs.{reported}
+
+-- what holds of one end holds of another that is the same
+pub noted : {w v : Noted} {value : ℕ} {memory numbers : List ℕ} → w ≡ v → (value ≡ v .value) × ((memory ≡ v .memory) × (numbers ≡ v .numbers))
+    → (value ≡ w .value) × ((memory ≡ w .memory) × (numbers ≡ w .numbers))
+noted e f = rw e f
+
+-- from an opening and a choice
+module _ (o : Opened) (choice : Choice) (m numbers image : List ℕ) where
+  abbrev why : Refusal
+  why = barred (o .refusal) choice (length numbers) (length m) (sumOf (o .session .windows))
+
+  pub from-barred : numberOf why ≢ 0 → bitsFrom o choice m numbers image ≡ unrun why m numbers
+  unfolding bitsFrom
+  from-barred e = chosen _ _ _ (ap not (ne-eqb _ _ e))
+
+  pub from-run : numberOf why ≡ 0 → bitsFrom o choice m numbers image
+      ≡ record {
+        value = reported (runOf (o .session) m image .answer);
+        memory = runOf (o .session) m image .memory;
+        numbers = runEntries (placesIn choice) (cleared numbers) (o .session) m image;
+      }
+  unfolding bitsFrom
+  from-run e = passed _ _ _ (ap not (eq-eqb _ _ e))
+
+-- in a dialect by number
+module _ (dialect : ℕ) (map listed m numbers image : List ℕ) (limit : ℕ) where
+  pub run-unknown : 1 < dialect → bitsRun dialect map listed m numbers image limit ≡ unrun refusal.Call m numbers
+  unfolding bitsRun
+  run-unknown e = chosen _ _ _ (lt-ltb _ _ e)
+
+  pub run-known : dialect ≤ 1 → bitsRun dialect map listed m numbers image limit
+      ≡ bitsFrom (numberingFrom (openedBy (dialectOf dialect) (countOf map) (windowsOf map) image limit)) (choiceOn map listed) m numbers image
+  unfolding bitsRun
+  run-known e = passed _ _ _ (le-ltb _ _ e)

@@ -1,0 +1,4 @@
+pub mod Agreeing
+pub mod Calls
+pub mod Units
+pub mod Words

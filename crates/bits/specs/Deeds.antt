@@ -1,0 +1,60 @@
+-- What the command at an offset of an image is, and which bits of a chosen word it writes, by the words that it has there.
+use Prim.Native.Nat.{ℕ, _+_, _*_}
+use mathlib.Core.List.{List}
+use Rattle.words.specs.Bytes.{wordAt}
+use Rattle.script.specs.Opcodes.{lookedUp}
+use Rattle.script.specs.declared.Command.{Command}
+use Rattle.script.specs.declared.Command.the-variants as command
+use Rattle.script.specs.declared.Dialect.the-variants.{Am17xx}
+use Rattle.script.specs.declared.Found.{Found}
+use Rattle.script.specs.declared.Found.the-variants.{Known, Retired, Unknown}
+use Rattle.script.specs.declared.Mode.the-variants.{Flash}
+use Rattle.commands.specs.Wrote.{bytesWrote, settingWrote}
+use Rattle.commands.specs.declared.Judged.the-variants.{Granted}
+use Rattle.commands.specs.declared.Wrote.{Wrote}
+use Rattle.stamps.specs.Stamps.{wordBitsBelow}
+use Rattle.bits.specs.declared.Deed.{Deed}
+use Rattle.bits.specs.declared.Kind.{Kind}
+use Rattle.bits.specs.declared.Kind.the-variants as kind
+
+-- bits that were written, as the word at a place has them: from its first that was written up to before the first behind them
+unfoldable pub spread : Kind → ℕ → Wrote → Deed
+spread k word w =
+    record {
+      kind = k;
+      from = wordBitsBelow word (8 * w .place + w .start);
+      to = wordBitsBelow word (8 * w .place + w .start + w .count);
+    }
+
+abbrev pub noDeed : Deed
+noDeed = record { kind = kind.Other; from = 0; to = 0 }
+
+-- a load or a fill: its address, then its size; the addresses stand for the places
+unfoldable pub bytesDeed : Kind → List ℕ → ℕ → ℕ → Deed
+bytesDeed k image at word = spread k word (bytesWrote (Granted (wordAt image (at + 4))) (wordAt image (at + 8)) 0)
+
+-- a setting: its type word, then its address
+unfoldable pub settingDeed : List ℕ → ℕ → ℕ → Deed
+settingDeed image at word = spread kind.Setting word (settingWrote (Granted (wordAt image (at + 8))) (wordAt image (at + 4)) 0)
+
+-- no other command writes
+abbrev pub commandDeed : Command → List ℕ → ℕ → ℕ → Deed
+commandDeed command.Load image at word = bytesDeed kind.Load image at word
+commandDeed command.Fill image at word = bytesDeed kind.Fill image at word
+commandDeed command.BootTable image at word = settingDeed image at word
+commandDeed command.Enable image at word = noDeed
+commandDeed command.Disable image at word = noDeed
+commandDeed command.Request image at word = noDeed
+commandDeed command.StartOver image at word = noDeed
+commandDeed command.JumpAndClose image at word = noDeed
+commandDeed command.Ping image at word = noDeed
+commandDeed command.SequentialRead image at word = noDeed
+
+abbrev pub foundDeed : Found → List ℕ → ℕ → ℕ → Deed
+foundDeed (Known c n) image at word = commandDeed c image at word
+foundDeed Retired image at word = noDeed
+foundDeed Unknown image at word = noDeed
+
+-- the command at an offset, and the word at an address
+unfoldable pub deedAt : List ℕ → ℕ → ℕ → Deed
+deedAt image at word = foundDeed (lookedUp (wordAt image at) Flash Am17xx) image at word

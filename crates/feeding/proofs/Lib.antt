@@ -1,0 +1,5 @@
+pub mod Barring
+pub mod Cases
+pub mod Fitting
+pub mod Numbers
+pub mod Reaching

@@ -1,0 +1,13 @@
+-- `flash::halt` meets its contract: it is the definition, field by field, and writes nothing.
+use borrow.Author.Needs.{needs}
+use Rattle.flash.proofs.halt.Statement.{statement}
+use Rattle.flash.proofs.halt.Tie as tie
+
+wrote-none-requires : tie.Need-wrote-none-requires
+wrote-none-requires c κs = search needs
+
+returns : tie.Need-returns
+returns c = rw (c .wrote-none .ensures)
+
+pub halt-spec : {M : Type 1} → statement M
+halt-spec = tie.close (tie.spec wrote-none-requires returns)

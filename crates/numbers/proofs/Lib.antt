@@ -1,0 +1,3 @@
+pub mod Common
+pub mod InFlash
+pub mod OnLine

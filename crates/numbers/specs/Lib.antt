@@ -1,0 +1,3 @@
+pub mod InFlash
+pub mod LeftOut
+pub mod OnLine

@@ -1,0 +1,27 @@
+-- `sent::number_from` meets its contract: the refusal's number is 0 exactly where there is none.
+use borrow.Author.Needs.{needs}
+use mathlib.Core.Path.{sym, _∙_}
+use borrow.Author.Tests.{eq-eqb, ne-eqb}
+use Rattle.words.proofs.Choice.{chosen, passed}
+use Rattle.sent.specs.Opening.{numberingFrom}
+use Rattle.sent.proofs.number_from.Statement.{statement}
+use Rattle.sent.proofs.number_from.Tie as tie
+
+number-requires : tie.Need-number-requires
+number-requires c κs = search needs
+
+from-one-requires : tie.Need-from-one-requires
+from-one-requires c κs = search needs
+
+returns : tie.Need-returns
+unfolding numberingFrom
+returns c =
+    rw (c .from-one .ensures)
+    (sym (chosen _ _ _ (eq-eqb _ _ (sym (c .before .before .before .number .ensures) ∙ c .before .before .if1 .taken))))
+
+returns-2 : tie.Need-returns-2
+unfolding numberingFrom
+returns-2 c = sym (passed _ _ _ (ne-eqb _ _ (rw (c .before .number .ensures) at (c .if1 .left))))
+
+pub number-from-spec : {M : Type 1} → statement M
+number-from-spec = tie.close (tie.spec number-requires from-one-requires returns returns-2)
