@@ -3,6 +3,7 @@ pub mod Cases
 pub mod Counting
 pub mod Every
 pub mod Feeding
+pub mod Gathering
 pub mod Granted
 pub mod Laws
 pub mod Lift

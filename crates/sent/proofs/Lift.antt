@@ -1,9 +1,8 @@
 -- The units of a word are the word. From a word's beginning all units but the last are gathered in silence, and the last hands the word to the word machine:
 -- by the two buses up to there, and once for both from there. The rest goes word by word.
-use Prim.Native.Nat.{ℕ, zero, suc, _+_, _-_, _*_, _/_, _%_, _^_, _≤_, _<_}
-use mathlib.Core.Bool.{Bool, true, false, not, _&&_, and-false, true≢false}
+use Prim.Native.Nat.{ℕ, zero, suc, _+_, _-_, _/_, _%_, _^_, _≤_, _<_}
+use mathlib.Core.Bool.{true, false, true≢false}
 use mathlib.Core.List.{List, [], _∷_, _++_, append-assoc}
-use mathlib.Core.Logic.{_≢_}
 use mathlib.Core.Path.{_≡_, refl, sym, ap, ap₂, subst, subst₂, _∙_}
 use native.Mathlib.Omega.{arith}
 use lib.Dec.{eqb, lit<, lit≤}
@@ -16,7 +15,7 @@ use Rattle.windows.specs.declared.Window.{Window}
 use Rattle.script.specs.Answers.{numberOf}
 use Rattle.script.specs.declared.Dialect.{Dialect}
 use Rattle.script.specs.declared.Refusal.the-variants as refusal
-use Rattle.sent.specs.Bus.{unitBits, unitsInWord, startUnit, unitsOf, allUnits, firstUnit, pushed}
+use Rattle.sent.specs.Bus.{unitBits, unitsInWord, unitsOf, allUnits, firstUnit, pushed}
 use Rattle.sent.specs.Feeding.{State, Heard, next, fed, answers, NoneRefused}
 use Rattle.sent.specs.Lift.{atWord, silent, refusedBy, heardWord, Plain, Ready, UnitsAreTheWord, Absorbed, replied, Words, EitherLine, Lines}
 use Rattle.sent.specs.Line.{Outcome, carried, isStart, unitStep}
@@ -30,13 +29,10 @@ use Rattle.sent.specs.declared.Core.{Core}
 use Rattle.sent.specs.declared.Line.{Line}
 use Rattle.sent.specs.declared.Opened.{Opened}
 use Rattle.sent.specs.declared.Taken.{Taken}
-use Rattle.sent.proofs.Cases.{start-other, unit-ended, unit-gathered, unit-whole}
+use Rattle.sent.proofs.Cases.{unit-ended, unit-gathered, unit-whole}
 use Rattle.sent.proofs.Every.{every-word}
 use Rattle.sent.proofs.Feeding.{fed-append, answers-append, Goes, _then_, unit-goes}
-
--- a session with some units of a word gathered, and its memory
-abbrev holding : Core → ℕ → ℕ → List ℕ → State
-holding k have word m = record { session = record { core = k; line = record { started = true; have = have; word = word } }; memory = m }
+use Rattle.sent.proofs.Gathering.{holding, bytes-again, halves-again, begins-word, inside-word}
 
 -- all units of a word but the last are gathered, and the last makes the word
 record Gathered (bus : Bus) (k : Core) (m : List ℕ) (word : ℕ) : Type 0 where
@@ -50,41 +46,7 @@ record Gathered (bus : Bus) (k : Core) (m : List ℕ) (word : ℕ) : Type 0 wher
   inside : isStart bus (holding k have part m .session) last ≡ false
   makes : pushed bus part last ≡ word
 
--- the bytes of a word make it again
-four-pushes : (a b c d : ℕ) → pushed Bytes (pushed Bytes (pushed Bytes (pushed Bytes 0 a) b) c) d ≡ a + 256 * b + 65536 * c + 16777216 * d
-unfolding pushed
-four-pushes a b c d =
-    let first : pushed Bytes (pushed Bytes 0 a) b ≡ 65536 * a + 16777216 * b = omega arith in
-    let second : pushed Bytes (65536 * a + 16777216 * b) c ≡ 256 * a + 65536 * b + 16777216 * c = omega arith in
-    let third : pushed Bytes (256 * a + 65536 * b + 16777216 * c) d ≡ a + 256 * b + 65536 * c + 16777216 * d = omega arith in
-    ap (λ (w : ℕ). pushed Bytes (pushed Bytes w c) d) first ∙ ap (λ (w : ℕ). pushed Bytes w d) second ∙ third
-
-bytes-again : (w : ℕ) → w < 2 ^ 32 → pushed Bytes (pushed Bytes (pushed Bytes (pushed Bytes 0 (byte w 0)) (byte w 1)) (byte w 2)) (byte w 3) ≡ w
-unfolding byte
-bytes-again w h =
-    let low : w / 256 ≡ 256 * (w / 65536) + w / 256 % 256 = omega arith in
-    let middle : w / 65536 ≡ 256 * (w / 16777216) + w / 65536 % 256 = omega arith in
-    let high : w / 16777216 % 256 ≡ w / 16777216 = omega arith in
-    four-pushes _ _ _ _ ∙ omega arith
-
--- and so do its halves
-halves-again : (w : ℕ) → pushed Halves (pushed Halves 0 (firstUnit Halves w)) (getD (unitsOf Halves w) 1 0) ≡ w
-unfolding pushed
-halves-again w = omega arith
-
--- a unit that begins a word is no start unit
-begins-word : (bus : Bus) (k : Core) (m : List ℕ) (u : ℕ) → (k .begun ≡ false → u ≢ startUnit bus) → isStart bus (atWord k m .session) u ≡ false
-unfolding isStart
-begins-word bus k m u plain =
-    by-test (k .begun) (λ e. ap (λ (t : Bool). eqb u (startUnit bus) && not t) e ∙ and-false (eqb u (startUnit bus))) (λ e. start-other bus (atWord k m .session) u (plain e))
-
 module _ (k : Core) (m : List ℕ) (running : k .ended ≡ false) (lent : length m ≡ sumOf (k .windows)) where
-  -- a unit inside a word is none
-  inside-word : (bus : Bus) (have part u : ℕ) → eqb have 0 ≡ false → isStart bus (holding k have part m .session) u ≡ false
-  unfolding isStart
-  inside-word bus have part u some =
-      ap (λ (t : Bool). eqb u (startUnit bus) && (t && not (k .begun))) some ∙ and-false (eqb u (startUnit bus))
-
   -- one more unit is gathered
   gathers : (bus : Bus) (have part u : ℕ) → have < unitsInWord bus - 1 → isStart bus (holding k have part m .session) u ≡ false
       → Goes bus (holding k have part m) (u ∷ []) (holding k (have + 1) (pushed bus part u) m) (silent ∷ [])
@@ -100,10 +62,10 @@ module _ (k : Core) (m : List ℕ) (running : k .ended ≡ false) (lent : length
         split = refl;
         goes =
             gathers Bytes 0 0 (byte word 0) (lit< tt) (begins-word Bytes k m _ plain)
-            then gathers Bytes 1 _ (byte word 1) (lit< tt) (inside-word Bytes 1 _ _ refl)
-            then gathers Bytes 2 _ (byte word 2) (lit< tt) (inside-word Bytes 2 _ _ refl);
+            then gathers Bytes 1 _ (byte word 1) (lit< tt) (inside-word Bytes k m 1 _ _ refl)
+            then gathers Bytes 2 _ (byte word 2) (lit< tt) (inside-word Bytes k m 2 _ _ refl);
         enough = lit≤ tt;
-        inside = inside-word Bytes 3 _ _ refl;
+        inside = inside-word Bytes k m 3 _ _ refl;
         makes = bytes-again word small;
       }
   gathered Halves word small plain =
@@ -115,7 +77,7 @@ module _ (k : Core) (m : List ℕ) (running : k .ended ≡ false) (lent : length
         split = refl;
         goes = gathers Halves 0 0 (firstUnit Halves word) (lit< tt) (begins-word Halves k m _ plain);
         enough = lit≤ tt;
-        inside = inside-word Halves 1 _ _ refl;
+        inside = inside-word Halves k m 1 _ _ refl;
         makes = halves-again word;
       }
 

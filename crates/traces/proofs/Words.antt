@@ -51,13 +51,13 @@ use Rattle.sent.specs.declared.Tally.{Tally}
 use Rattle.sent.proofs.ByTheTable.{by-the-table, word-kept, word-last, opcode-asks}
 use Rattle.sent.proofs.Cases.{unit-gathered, unit-whole}
 use Rattle.sent.proofs.Feeding.{fed-append, units-append}
+use Rattle.sent.proofs.Gathering.{holding, bytes-again, halves-again, begins-word, inside-word}
 use Rattle.sent.proofs.Laws.{data-step}
 use Rattle.sent.proofs.Lift.{accepted-goes}
 use Rattle.retries.specs.Pieces.{Piece, load, fill, setting, wordsOf, AreWords, Sendable, judgedOf, loadOpcode, fillOpcode, settingOpcode}
 use Rattle.retries.proofs.Taking.{writeOf, Room, tallyOf, memoryOf, running, awaiting, accepted, Apart, taken, load-apart, fill-apart, setting-apart, load-row, fill-row, setting-row, begun-ready, opcode-ready, length-loaded}
 use Rattle.watched.specs.Watched.{unitEntries, entriesAfter}
 use Rattle.traces.proofs.Covered.{stampedBy, by-append}
-use Rattle.traces.proofs.Gathering.{holding, bytes-again, halves-again, begins-word, inside-word}
 
 -- units lead from one state to another, and stamp these writes
 pub record Writes (bus : Bus) (x : State) (us : List ℕ) (y : State) (ws : List Wrote) : Type 0 where
