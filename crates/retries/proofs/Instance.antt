@@ -89,58 +89,10 @@ unfolding bit join withField within byte number bytesAt put fits fieldFits field
     checksum.fedWords hasRight inside grantsRange placeFrom placeOf sumOf soundWindow allSound rising goodMap keptOf rows rowServes foundIn
     lookedUp multiple rangeJudged loadJudged loaded unitOf unitsJudged fieldShape shapeOf tooWide settingDone settingMemory isPast pushed carried isStart unitStep
     afterCommand awaited acknowledging wordStep openedBy numberingFrom following startAnswer startTo fed allWords answers startedTo effectOf someWrites
-computed Bytes Am17xx = record {
-  answered = refl;
-  idle = record { running = refl; started = refl; fresh = refl; opcode = refl };
-  tried = refl;
-  after-tried = refl;
-  same-bits = λ p. refl;
-  after-attempt = refl;
-  after-repeat = refl;
-  never-tried = refl;
-  counted = refl;
-  numbered = refl;
-  unasked = refl;
-}
-computed Bytes Dm648 = record {
-  answered = refl;
-  idle = record { running = refl; started = refl; fresh = refl; opcode = refl };
-  tried = refl;
-  after-tried = refl;
-  same-bits = λ p. refl;
-  after-attempt = refl;
-  after-repeat = refl;
-  never-tried = refl;
-  counted = refl;
-  numbered = refl;
-  unasked = refl;
-}
-computed Halves Am17xx = record {
-  answered = refl;
-  idle = record { running = refl; started = refl; fresh = refl; opcode = refl };
-  tried = refl;
-  after-tried = refl;
-  same-bits = λ p. refl;
-  after-attempt = refl;
-  after-repeat = refl;
-  never-tried = refl;
-  counted = refl;
-  numbered = refl;
-  unasked = refl;
-}
-computed Halves Dm648 = record {
-  answered = refl;
-  idle = record { running = refl; started = refl; fresh = refl; opcode = refl };
-  tried = refl;
-  after-tried = refl;
-  same-bits = λ p. refl;
-  after-attempt = refl;
-  after-repeat = refl;
-  never-tried = refl;
-  counted = refl;
-  numbered = refl;
-  unasked = refl;
-}
+computed Bytes Am17xx = search
+computed Bytes Dm648 = search
+computed Halves Am17xx = search
+computed Halves Dm648 = search
 
 -- how many sections were counted
 abbrev sectionsOf : State → ℕ
