@@ -1,5 +1,4 @@
 // What is told of a run and of a chosen word, a line each.
-use crate::text;
 use bits::Deed;
 use bits::Kind;
 use bits::Names;
@@ -10,13 +9,19 @@ use register::Found;
 // How the run ended.
 pub fn outcome(entered: bool, code: u8, at: u32) {
     if entered {
-        text::put(b"outcome=entered");
+        printing::put(b"outcome=entered");
     } else {
-        text::put(b"outcome=refused");
+        printing::put(b"outcome=refused");
     }
-    text::put_number(b" code=", code as u32);
-    text::put_number(b" at=", at);
-    text::put(b"\n");
+    printing::put_number(b" code=", code as u32);
+    printing::put_number(b" at=", at);
+    printing::put(b"\n");
+}
+
+// The first and the last of some bits.
+fn put_bits(key: &[u8], start: u32, stop: u32) {
+    printing::put_number(key, start);
+    printing::put_number(b"..", stop);
 }
 
 // The last bit before one.
@@ -31,44 +36,44 @@ fn last_before(end: u32) -> u32 {
 fn put_deed(deed: Deed) {
     let kind = deed.kind;
     match kind {
-        Kind::Load => text::put(b" load"),
-        Kind::Fill => text::put(b" fill"),
-        Kind::Setting => text::put_bits(b" setting=", deed.from, last_before(deed.to)),
-        Kind::Other => text::put(b" unknown"),
+        Kind::Load => printing::put(b" load"),
+        Kind::Fill => printing::put(b" fill"),
+        Kind::Setting => put_bits(b" setting=", deed.from, last_before(deed.to)),
+        Kind::Other => printing::put(b" unknown"),
     }
 }
 
 // A command by its number, its offset and what it is.
 fn put_command(number: u32, at: u32, deed: Deed) {
-    text::put_number(b" command=", number);
-    text::put_number(b" at=", at);
+    printing::put_number(b" command=", number);
+    printing::put_number(b" at=", at);
     put_deed(deed);
 }
 
 // The field of some bits, a dash for none.
 fn put_field(field: Found) {
     if !field.found {
-        return text::put(b" field=-");
+        return printing::put(b" field=-");
     }
     let line = field.line;
     let name = line.name;
-    text::put_name(b" field=", name);
+    printing::put_name(b" field=", name);
 }
 
 // A line of bits of which the same is told; the field only where a register was given.
 fn put_part(image: &[u8], named: bool, address: u32, part: Part) {
     let told = part.told;
     let field = told.field;
-    text::put_bits(b"bits=", part.start, part.stop);
-    text::put_number(b" value=", part.value);
+    put_bits(b"bits=", part.start, part.stop);
+    printing::put_number(b" value=", part.value);
     if named {
         put_field(field);
     }
     if told.number == 0 {
-        return text::put(b" never written\n");
+        return printing::put(b" never written\n");
     }
     put_command(told.number, told.at, bits::deed_at(image, told.at, address));
-    text::put(b"\n");
+    printing::put(b"\n");
 }
 
 // The lines of a word.
@@ -100,12 +105,12 @@ fn put_written(field: Found, deed: Deed) {
     let line = field.line;
     let name = line.name;
     if bits::reaches_out(line, deed.from, deed.to) {
-        text::put(b"part of ");
+        printing::put(b"part of ");
     } else {
-        text::put(b"all of ");
+        printing::put(b"all of ");
     }
-    text::put_name(b"", name);
-    text::put_bits(b" ", line.start, line.stop);
+    printing::put_name(b"", name);
+    put_bits(b" ", line.start, line.stop);
 }
 
 // The fields that a command writes.
@@ -119,7 +124,7 @@ fn put_fields(names: Names, address: u32, deed: Deed) {
             return;
         }
         if next < deed.to {
-            text::put(b", ");
+            printing::put(b", ");
         }
         bit = next;
     }
@@ -133,11 +138,11 @@ fn put_warning(image: &[u8], number: u32, at: u32, names: Names, address: u32) {
     if !two && !cut {
         return;
     }
-    text::put(b"warning:");
+    printing::put(b"warning:");
     put_command(number, at, deed);
-    text::put(b" writes ");
+    printing::put(b" writes ");
     put_fields(names, address, deed);
-    text::put(b"\n");
+    printing::put(b"\n");
 }
 
 // Looks at the command of a bit, where the bit is the lowest that it wrote last.
@@ -172,27 +177,27 @@ pub fn word(
     named: bool,
     word: Word,
 ) {
-    text::put_word(b"word=", word.address);
-    text::put_word(b" value=", value);
-    text::put(b"\n");
+    printing::put_word(b"word=", word.address);
+    printing::put_word(b" value=", value);
+    printing::put(b"\n");
     put_parts(image, value, numbers, offsets, names, named, word);
     put_warnings(image, numbers, offsets, names, word);
 }
 
 // A register that is refused, by its number and the line.
 pub fn refused_register(number: u8, line: usize) {
-    text::put_number(b"refusal=", number as u32);
-    text::put(b" line ");
+    printing::put_number(b"refusal=", number as u32);
+    printing::put(b" line ");
     io::print_decimal(libc::STDOUT_FILENO, line as u64);
     match number {
-        26 => text::put(b" of the register is malformed, or beyond the 200th\n"),
-        _ => text::put(b" of the register clashes with an earlier one\n"),
+        26 => printing::put(b" of the register is malformed, or beyond the 200th\n"),
+        _ => printing::put(b" of the register clashes with an earlier one\n"),
     }
 }
 
 // Words that are refused.
 pub fn refused_words() {
-    text::put(
+    printing::put(
         b"refusal=24 more than 64 words, or one that is no multiple of 4, is named twice, or does not lie in the window\n",
     );
 }

@@ -1,7 +1,6 @@
 // The bits program: reads an image on standard input, runs it, and tells which command wrote each bit of the words that its arguments name. Before the words
 // may stand `register`, the name of a register file and a release, by whose fields the bits are named.
 mod answers;
-mod text;
 
 ghost use Prim.Native.Nat.{_*_, _≤_};
 ghost use lib.ListN.{length};
@@ -9,6 +8,10 @@ use bits::Names;
 use bits::Word;
 use lines::Number;
 use words::Unit;
+
+fn usage() {
+    printing::put(b"usage: ais-bits [--register FILE RELEASE] FILE WORD..\n");
+}
 
 // A number given as an argument.
 fn number_at(i: usize) -> Number {
@@ -120,7 +123,7 @@ fn with_words(first: usize, names: Names, named: bool)
     let mut list = [0u8; 260];
     let count = read_words(first, &mut list);
     if count == 0 {
-        return text::usage();
+        return usage();
     }
     let end = 4 * count;
     run(&list[..end], names, named);
@@ -133,7 +136,7 @@ fn with_register(release: u32) {
     let kept = os::arg(2, &mut name);
     let file = os::open_read(&name[..kept]);
     if file < 0 {
-        return text::usage();
+        return usage();
     }
     let n = io::read_full(file, &mut room);
     libc::close(file);
@@ -167,7 +170,7 @@ fn main() {
         return with_no_register();
     }
     let Number::Is(release) = number_at(3) else {
-        return text::usage();
+        return usage();
     };
     with_register(release);
 }

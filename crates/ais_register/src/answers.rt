@@ -6,16 +6,16 @@ use register::Subject;
 
 // A good register.
 pub fn good(register: Register) {
-    text::put(b"register=good lines=");
+    printing::put(b"register=good lines=");
     io::print_decimal(libc::STDOUT_FILENO, register.count as u64);
-    text::put(b"\n");
+    printing::put(b"\n");
 }
 
 // A refused one, with the line that is refused.
 pub fn refused(bytes: &[u8], number: u8, line: usize) {
-    text::put(b"register=refused line=");
+    printing::put(b"register=refused line=");
     io::print_decimal(libc::STDOUT_FILENO, line as u64);
-    text::put(b" ");
+    printing::put(b" ");
     text::put_refusal(number);
     text::show_line(bytes, line);
 }
@@ -28,38 +28,38 @@ pub fn bit(register: Register, word: u32, bit: u32, release: u32) {
     }
     let line = found.line;
     let name = line.name;
-    text::put_name(b"field=", name);
-    text::put_number(b" since=", line.since);
-    text::put(b"\n");
+    printing::put_name(b"field=", name);
+    printing::put_number(b" since=", line.since);
+    printing::put(b"\n");
 }
 
 // The releases of a stretch; until=0 has no end.
 fn put_releases(from: u32, last: u32) {
-    text::put_number(b" since=", from);
-    text::put_number(b" until=", last);
-    text::put(b"\n");
+    printing::put_number(b" since=", from);
+    printing::put_number(b" until=", last);
+    printing::put(b"\n");
 }
 
 // What a bit is in a stretch of releases.
 fn put_field(found: Found) {
     if !found.found {
-        return text::put(b"field=-");
+        return printing::put(b"field=-");
     }
     let line = found.line;
     let name = line.name;
-    text::put_name(b"field=", name);
+    printing::put_name(b"field=", name);
 }
 
 // Where a field is in a stretch of releases.
 fn put_place(name: [u8; 16], found: Found) {
-    text::put_name(b"field=", name);
+    printing::put_name(b"field=", name);
     if !found.found {
-        return text::put(b" word=- start=- stop=-");
+        return printing::put(b" word=- start=- stop=-");
     }
     let line = found.line;
-    text::put_word(b" word=", line.word);
-    text::put_number(b" start=", line.start);
-    text::put_number(b" stop=", line.stop);
+    printing::put_word(b" word=", line.word);
+    printing::put_number(b" start=", line.start);
+    printing::put_number(b" stop=", line.stop);
 }
 
 // One stretch, and the release behind it; 0 where it has no end.
@@ -122,10 +122,10 @@ pub fn setting(register: Register, name: &[u8], release: u32, value: u32) {
         return text::put_refusal(number);
     }
     let words = made.words;
-    text::put_word(b"opcode=", words[0]);
-    text::put_word(b" type=", words[1]);
-    text::put_word(b" address=", words[2]);
-    text::put_word(b" data=", words[3]);
-    text::put_word(b" delay=", words[4]);
-    text::put(b"\n");
+    printing::put_word(b"opcode=", words[0]);
+    printing::put_word(b" type=", words[1]);
+    printing::put_word(b" address=", words[2]);
+    printing::put_word(b" data=", words[3]);
+    printing::put_word(b" delay=", words[4]);
+    printing::put(b"\n");
 }

@@ -1,69 +1,22 @@
-// What the program writes: bytes, numbers, words and the refusals in plain words.
+// What the program writes beside what `printing` has: the refusals in plain words, a line of the register, and how it is used.
 ghost use Prim.Native.Nat.{_≤_};
 ghost use lib.ListN.{length};
-use libc::STDOUT_FILENO;
-
-pub fn put(text: &[u8]) {
-    io::write_all(STDOUT_FILENO, text);
-}
-
-pub fn put_number(key: &[u8], value: u32) {
-    put(key);
-    io::print_decimal(STDOUT_FILENO, value as u64);
-}
-
-// A digit in capitals.
-fn digit(value: u32) -> u8 {
-    let low = (value % 16) as u8;
-    if low < 10 {
-        b'0' + low
-    } else {
-        b'A' + (low - 10)
-    }
-}
-
-// Eight hexadecimal digits.
-pub fn put_word(key: &[u8], value: u32) {
-    put(key);
-    put(b"0x");
-    put(
-        &[
-            digit(value >> 28),
-            digit(value >> 24),
-            digit(value >> 20),
-            digit(value >> 16),
-            digit(value >> 12),
-            digit(value >> 8),
-            digit(value >> 4),
-            digit(value),
-        ],
-    );
-}
-
-// A name without the zeros behind it.
-pub fn put_name(key: &[u8], name: [u8; 16]) {
-    put(key);
-    let letters = name;
-    let view: &[u8] = &letters;
-    let n = bytes::scan::find(view, 0, view.len(), 0);
-    put(&view[..n]);
-}
 
 // A refusal's number, and its meaning.
 pub fn put_refusal(number: u8) {
-    put_number(b"refusal=", number as u32);
+    printing::put_number(b"refusal=", number as u32);
     match number {
-        16 => put(b" the value is too wide for the field\n"),
-        26 => put(b" the line is malformed, or beyond the 200th\n"),
-        27 => put(
+        16 => printing::put(b" the value is too wide for the field\n"),
+        26 => printing::put(b" the line is malformed, or beyond the 200th\n"),
+        27 => printing::put(
             b" the line clashes with an earlier one: a release has both, and they share a name or a bit of one word\n",
         ),
-        _ => put(b" no such field in that release\n"),
+        _ => printing::put(b" no such field in that release\n"),
     }
 }
 
 pub fn usage() {
-    put(
+    printing::put(
         b"usage: ais-register FILE [bit WORD BIT [RELEASE] | field NAME | set NAME RELEASE VALUE]\n",
     );
 }
@@ -101,8 +54,8 @@ fn put_line(line: &[u8]) {
         room[i] = shown(line[i]);
         i += 1;
     }
-    put(&room[..n]);
-    put(b"\n");
+    printing::put(&room[..n]);
+    printing::put(b"\n");
 }
 
 // Where a line of a text begins, counted from 1.

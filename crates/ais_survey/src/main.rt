@@ -3,44 +3,34 @@ ghost use Prim.Native.Nat.{_≤_};
 ghost use lib.ListN.{length};
 ghost use Rattle.io.specs.Counts.{Counts};
 use libc::STDIN_FILENO;
-use libc::STDOUT_FILENO;
 use survey::Image;
 use survey::Line;
 use survey::Outcome;
 use survey::Survey;
 use survey::Totals;
 
-fn put(text: &[u8]) {
-    io::write_all(STDOUT_FILENO, text);
-}
-
-fn put_number(name: &[u8], value: u32) {
-    put(name);
-    io::print_decimal(STDOUT_FILENO, value as u64);
-}
-
 fn put_outcome(outcome: Outcome) {
     match outcome {
-        Outcome::Entered => put(b" outcome=entered"),
-        Outcome::Refused => put(b" outcome=refused"),
-        Outcome::Absent => put(b" outcome=absent"),
+        Outcome::Entered => printing::put(b" outcome=entered"),
+        Outcome::Refused => printing::put(b" outcome=refused"),
+        Outcome::Absent => printing::put(b" outcome=absent"),
     }
 }
 
 fn put_line(line: Line) {
     let outcome = line.outcome;
-    put_number(b"image=", line.image);
+    printing::put_number(b"image=", line.image);
     put_outcome(outcome);
-    put_number(b" set=", line.set);
-    put_number(b" differ=", line.differ);
-    put(b"\n");
+    printing::put_number(b" set=", line.set);
+    printing::put_number(b" differ=", line.differ);
+    printing::put(b"\n");
 }
 
 fn put_totals(totals: Totals) {
-    put_number(b"images=", totals.images);
-    put_number(b" entered=", totals.entered);
-    put_number(b" differ=", totals.differ);
-    put(b"\n");
+    printing::put_number(b"images=", totals.images);
+    printing::put_number(b" entered=", totals.entered);
+    printing::put_number(b" differ=", totals.differ);
+    printing::put(b"\n");
 }
 
 // Which byte of what was read of the list is next, and how many were read.

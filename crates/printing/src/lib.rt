@@ -1,4 +1,4 @@
-// What the program writes: bytes, numbers, words, stretches of bits, names.
+// What programs write on standard output: bytes, numbers, words and names.
 use libc::STDOUT_FILENO;
 
 pub fn put(text: &[u8]) {
@@ -38,12 +38,6 @@ pub fn put_word(key: &[u8], value: u32) {
     );
 }
 
-// The first and the last of some bits.
-pub fn put_bits(key: &[u8], start: u32, stop: u32) {
-    put_number(key, start);
-    put_number(b"..", stop);
-}
-
 // A name without the zeros behind it.
 pub fn put_name(key: &[u8], name: [u8; 16]) {
     put(key);
@@ -51,8 +45,4 @@ pub fn put_name(key: &[u8], name: [u8; 16]) {
     let view: &[u8] = &letters;
     let n = bytes::scan::find(view, 0, view.len(), 0);
     put(&view[..n]);
-}
-
-pub fn usage() {
-    put(b"usage: ais-bits [--register FILE RELEASE] FILE WORD..\n");
 }

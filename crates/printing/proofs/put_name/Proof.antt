@@ -1,10 +1,10 @@
--- `ais_bits::text::put_name` is safe: the zero that is found lies in the name, or at its end.
+-- `printing::put_name` is safe: the zero that is found lies in the name, or at its end.
 use borrow.Author.Needs.{needs}
 use mathlib.Core.Path.{sym}
 use native.Mathlib.Omega.{arith}
 use lib.Seq.{length-take-le}
-use Rattle.ais_bits.proofs.text.put_name.Statement.{statement}
-use Rattle.ais_bits.proofs.text.put_name.Tie as tie
+use Rattle.printing.proofs.put_name.Statement.{statement}
+use Rattle.printing.proofs.put_name.Tie as tie
 
 put-requires : tie.Need-put-requires
 put-requires c κs = search needs
