@@ -85,14 +85,15 @@ fn run_image(
     ensures { λ r. ⌜ r ≡ pick fetched (fetchedValue dialect (now (map .entry)) (now (memory .entry)) (now (image .entry)) limit) (flashValue dialect (now (map .entry)) (now (memory .entry)) (now (image .entry)) limit) ⌝ }
     ensures { λ _. ⌜ now (memory .exit) ≡ flashMemory dialect (now (map .entry)) (now (memory .entry)) (now (image .entry)) limit ⌝ }
 {
+    let lent = &image[0..];
     let opened = Session::open(
         dialect,
         maps::count_of(map),
-        maps::windows_of(map),
-        image,
+        maps::windows_of(&map[0..]),
+        lent,
         limit,
     );
-    let called = run_from(opened, memory, image);
+    let called = run_from(opened, memory, lent);
     if fetched {
         return report_fetched(called);
     }

@@ -24,6 +24,7 @@ use Rattle.script.proofs.Event.kind.Reads as kind
 use Rattle.script.proofs.Event.value.Reads as value
 use Rattle.script.proofs.look_up.Reads as look_up
 use Rattle.totals.proofs.Totals.zero.Reads as totals-zero
+use Rattle.totals.proofs.Totals.anew.Reads as totals-anew
 use Rattle.totals.proofs.Totals.from_one.Reads as totals-from-one
 use Rattle.totals.proofs.Totals.is_spent.Reads as totals-is-spent
 use Rattle.totals.proofs.Totals.number.Reads as totals-number
@@ -178,6 +179,9 @@ look-up-unique κs a r s e f = same
 -- totals
 pub totals-zero-unique : OneResult totals-zero.Post
 totals-zero-unique κs a r s e f = same
+
+pub totals-anew-unique : OneResult totals-anew.Post
+totals-anew-unique κs a r s e f = same
 
 pub totals-from-one-unique : OneResult totals-from-one.Post
 totals-from-one-unique κs a r s e f = same

@@ -2,12 +2,13 @@
 use Prim.Native.Nat.{ℕ, _%_}
 use mathlib.Core.Bool.{Bool, true, false, not, _&&_, and-false}
 use mathlib.Core.List.{List}
-use mathlib.Core.Path.{_≡_, refl, ap, ap₂}
+use mathlib.Core.Path.{_≡_, refl, ap, ap₂, _∙_}
 use native.Mathlib.Omega.{arith}
 use borrow.Author.Tests.{eq-eqb, ne-eqb}
 use Rattle.words.specs.Bytes.{sizeOf}
 use Rattle.words.specs.Choice.{pick}
 use Rattle.words.specs.declared.Unit.{Unit as UnitOf}
+use Rattle.words.specs.declared.Unit.the-variants.{One}
 use Rattle.words.proofs.Choice.{chosen, passed, of-choice}
 use Rattle.windows.specs.Window.{placeOf}
 use Rattle.windows.specs.declared.Window.{Window}
@@ -47,6 +48,13 @@ module _ (windows : List Window) (wanted : Right) (unit : UnitOf) (address size 
       → unitsJudged windows wanted unit address size ≡ rangeJudged windows wanted address size
   unfolding unitsJudged multiple
   units-range a s = passed _ _ _ (ap₂ (λ (t u : Bool). not (t && u)) (eq-eqb _ _ a) (eq-eqb _ _ s))
+
+-- a load is judged as a fill of bytes, for which every address and size is a multiple
+pub bytes-judged : (windows : List Window) (address size : ℕ) → fillJudged windows address size 0 ≡ loadJudged windows address size
+unfolding fillJudged loadJudged unitOf
+bytes-judged windows address size =
+    let one : unitOf 0 ≡ Of One = chosen _ _ _ refl in
+    ap (λ (kind : UnitType). typeJudged windows address size kind) one ∙ units-range windows right.Load One address size (omega arith) (omega arith)
 
 module _ (windows : List Window) (address value : ℕ) {shape : Shape} {unit : UnitOf} {start width : ℕ} {field : Bool}
     (known : shape ≡ Bits unit start width field) where

@@ -133,11 +133,11 @@ fn barred_if(place: usize, test: bool, refusal: Refusal) -> Judged
     Judged::Granted(place)
 }
 
-// Is a load of `size` bytes at an address granted?
+// Is a load of `size` bytes at an address granted? It is judged as a fill of bytes is: one function for both is not joined to its callers, each of whom would look through all windows by itself.
 pub fn judge_load(windows: [Window; 8], address: u32, size: u32) -> Judged
     ensures { λ r. ⌜ r ≡ loadJudged windows address size ⌝ }
 {
-    judge_range(windows, Right::Load, address, size)
+    judge_fill(windows, address, size, 0)
 }
 
 // The smaller of two numbers.
@@ -451,22 +451,19 @@ pub fn judge_setting(windows: [Window; 8], word: u32, address: u32, value: u32) 
     judge_shape(windows, shape_of(word), address, value)
 }
 
-// Sets the bits of a shape where the command is granted.
-fn set_shape(memory: &mut [u8], judged: Judged, shape: Shape, value: u32)
-    ensures { λ _. ⌜ now (memory .exit) ≡ memoryIf judged (λ place. shapeSet (now (memory .entry)) place shape value) (now (memory .entry)) ⌝ }
+// Sets the bits of a shape at a place.
+fn set_shape(memory: &mut [u8], place: usize, shape: Shape, value: u32)
+    ensures { λ _. ⌜ now (memory .exit) ≡ shapeSet (now (memory .entry)) place shape value ⌝ }
 {
-    match judged {
-        Judged::Granted(place) => match shape {
-            Shape::Bits(unit, start, width, _) => {
-                words::write_field(memory, place, unit, start, width, value);
-            }
-            Shape::Wrong => {}
-        },
-        Judged::Refused(_) => {}
+    match shape {
+        Shape::Bits(unit, start, width, _) => {
+            words::write_field(memory, place, unit, start, width, value);
+        }
+        Shape::Wrong => {}
     }
 }
 
-// Does a Boot Table that was judged.
+// Does a Boot Table that was judged. The judgement is looked at once, so that the whole is small enough to be joined to its callers.
 pub fn boot_table(
     memory: &mut [u8],
     judged: Judged,
@@ -478,8 +475,21 @@ pub fn boot_table(
     ensures { λ r. ⌜ r ≡ settingDone judged register delay ⌝ }
     ensures { λ _. ⌜ now (memory .exit) ≡ settingMemory judged (now (memory .entry)) word value ⌝ }
 {
-    set_shape(memory, judged, shape_of(word), value);
-    answer(judged, register, Event::Wait(delay), register)
+    match judged {
+        Judged::Granted(place) => {
+            set_shape(memory, place, shape_of(word), value);
+            Done {
+                refusal: Refusal::None,
+                event: Event::Wait(delay),
+                register,
+            }
+        }
+        Judged::Refused(refusal) => Done {
+            refusal,
+            event: Event::Nothing,
+            register,
+        },
+    }
 }
 
 // No bits were written.

@@ -129,6 +129,28 @@ impl Session {
     }
 }
 
+// The same session, put together field by field: every answer's session is, so that the next call does not wait for the bytes between the fields.
+fn anew(session: Session) -> Session
+    ensures { λ r. ⌜ r ≡ session ⌝ }
+{
+    let windows = session.windows;
+    let totals = session.totals;
+    let dialect = session.dialect;
+    Session {
+        windows,
+        register: session.register,
+        offset: session.offset,
+        length: session.length,
+        fetched: session.fetched,
+        totals: totals.anew(),
+        ended: session.ended,
+        on: session.on,
+        limit: session.limit,
+        retries: session.retries,
+        dialect,
+    }
+}
+
 // An opening that is not refused, its commands numbered from 1.
 fn number_from(opened: Opened) -> Opened
     ensures { λ r. ⌜ r ≡ numberingFrom opened ⌝ }
@@ -228,7 +250,7 @@ fn keep(refusal: Refusal, session: Session) -> Called
         refusal,
         event: Event::Nothing,
         at: 0,
-        session,
+        session: anew(session),
         wrote: commands::wrote_none(),
     }
 }
@@ -238,7 +260,7 @@ fn halt(refusal: Refusal, session: Session) -> Called
     ensures { λ r. ⌜ r ≡ stopped refusal session ⌝ }
 {
     let at = session.offset;
-    let mut over = session;
+    let mut over = anew(session);
     over.ended = true;
     Called {
         refusal,
@@ -263,8 +285,8 @@ fn proceed(
     let dialect = session.dialect;
     let totals = session.totals;
     let turned = totals.happen(dialect, happening);
-    let mut gone = next;
-    gone.totals = turned;
+    let mut gone = anew(next);
+    gone.totals = turned.anew();
     Called {
         refusal,
         event,
@@ -327,13 +349,25 @@ fn argument_word(session: Session, image: &[u8], i: u32) -> u32
     words::word_at(image, (session.offset as usize) + 4 + 4 * (i as usize))
 }
 
+// The same event, not copied whole: a number that was just written by itself would be waited for.
+fn event_anew(event: Event) -> Event
+    ensures { λ r. ⌜ r ≡ event ⌝ }
+{
+    match event {
+        Event::Nothing => Event::Nothing,
+        Event::Wait(delay) => Event::Wait(delay),
+        Event::Enter(address) => Event::Enter(address),
+    }
+}
+
 // The answer to a command of so many words that was judged and done; accepted, this has happened and was written.
 fn finish(session: Session, happening: Happening, wrote: Wrote, done: Done, words: u32) -> Called
     requires { ⌜ session .offset + 4 * words < 2 ^ 32 ⌝ }
     ensures { λ r. ⌜ r ≡ after session happening wrote done words ⌝ }
 {
     let refusal = done.refusal;
-    let event = done.event;
+    let told = done.event;
+    let event = event_anew(told);
     if refusal.number() == 0 {
         let offset = session.offset + 4 * words;
         let next = moved(session, done.register, offset);

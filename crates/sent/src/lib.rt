@@ -313,6 +313,15 @@ fn take_unit(session: Session, memory: &mut [u8], bus: Bus, unit: u32) -> Answer
     ensures { λ r. ⌜ r ≡ unitStep bus session (now (memory .entry)) unit .answer ⌝ }
     ensures { λ _. ⌜ now (memory .exit) ≡ unitStep bus session (now (memory .entry)) unit .memory ⌝ }
 {
+    hear(anew(session), memory, bus, unit)
+}
+
+// What a session does with it: the tests in their order, then the gathering, then the whole word.
+fn hear(session: Session, memory: &mut [u8], bus: Bus, unit: u32) -> Answer
+    requires { ⌜ unit < 2 ^ unitBits bus ⌝ }
+    ensures { λ r. ⌜ r ≡ unitStep bus session (now (memory .entry)) unit .answer ⌝ }
+    ensures { λ _. ⌜ now (memory .exit) ≡ unitStep bus session (now (memory .entry)) unit .memory ⌝ }
+{
     let core = session.core;
     if core.ended {
         return tell(Refusal::Ended, silent(), session);
@@ -507,15 +516,26 @@ fn gather(session: Session, started: bool, have: u8, word: u32) -> Session
         have,
         word,
     };
+    let mut next = session;
+    next.line = line;
+    next
+}
+
+// The same session, put together field by field, so that no unit waits for the bytes between the fields of the last one.
+fn anew(session: Session) -> Session
+    ensures { λ r. ⌜ r ≡ session ⌝ }
+{
     let core = session.core;
     let tally = core.tally;
+    let totals = tally.totals;
     let same = Tally {
         register: tally.register,
-        totals: anew(tally.totals),
+        totals: totals.anew(),
     };
     let windows = core.windows;
     let dialect = core.dialect;
     let stage = core.stage;
+    let line = session.line;
     Session {
         core: Core {
             windows,
@@ -526,22 +546,11 @@ fn gather(session: Session, started: bool, have: u8, word: u32) -> Session
             tally: same,
             stage,
         },
-        line,
-    }
-}
-
-// The same totals, put together field by field: copied whole they take along the bytes between the fields, which each unit then waits for.
-fn anew(totals: Totals) -> Totals
-    ensures { λ r. ⌜ r ≡ totals ⌝ }
-{
-    let now = totals.now;
-    let mark = totals.mark;
-    Totals {
-        now,
-        mark,
-        asked: totals.asked,
-        next: totals.next,
-        back: totals.back,
+        line: Line {
+            started: line.started,
+            have: line.have,
+            word: line.word,
+        },
     }
 }
 

@@ -83,6 +83,9 @@ kept-bytes entries places w none =
 pub none-chosen : (entries : List ℕ) (w : Wrote) → stamped entries [] w ≡ entries
 none-chosen entries w = kept-bytes entries [] w (λ n. not-told [] w n (omega arith))
 
+pub none-taken : (entries places : List ℕ) (count : ℕ) (w : Wrote) → count ≡ 0 → stamped entries (take count places) w ≡ entries
+none-taken entries places count w none = ap (λ (n : ℕ). stamped entries (take n places) w) none ∙ none-chosen entries w
+
 -- a bit outside of the range is not told
 outside : (places : List ℕ) (w : Wrote) (n : ℕ) → within (firstBit w) (w .count) (toldBit places n) ≡ false → isTold places w n ≡ false
 unfolding isTold

@@ -57,6 +57,21 @@ impl Totals {
         }
     }
 
+    // The same totals, put together field by field: copied whole they take along the bytes between the fields, which the next step then waits for.
+    pub fn anew(self) -> Totals
+        ensures { λ r. ⌜ r ≡ self ⌝ }
+    {
+        let now = self.now;
+        let mark = self.mark;
+        Totals {
+            now,
+            mark,
+            asked: self.asked,
+            next: self.next,
+            back: self.back,
+        }
+    }
+
     // The same, the commands numbered from 1.
     pub fn from_one(self) -> Totals
         ensures { λ r. ⌜ r ≡ fromOne self ⌝ }

@@ -27,6 +27,9 @@ pub fn step_at(
     if wrote.count == 0 {
         return answer;
     }
+    if count == 0 {
+        return answer;
+    }
     stamps::stamp(entries, count, places, wrote);
     answer
 }
@@ -47,6 +50,9 @@ pub fn call(
     let called = session.step(memory, image);
     let wrote = called.wrote;
     if wrote.count == 0 {
+        return called;
+    }
+    if count == 0 {
         return called;
     }
     stamps::stamp(entries, count, places, wrote);

@@ -1,15 +1,35 @@
 -- `bench::run_image` meets its contract: the run from the opening on the windows that the map's bytes hold; its offset fits its place in the report.
 use borrow.Author.Needs.{needs}
 use mathlib.Core.Path.{sym, ap, _∙_}
+use denote.Ref.{now}
 use Rattle.words.proofs.Choice.{chosen, passed}
+use Rattle.words.proofs.Numbers.{from-place}
 use Rattle.bench.specs.Fetched.{fetchedReport}
 use Rattle.bench.specs.Runs.{reported}
 use Rattle.bench.proofs.Laws.{ran-at}
 use Rattle.bench.proofs.run_image.Statement.{statement}
 use Rattle.bench.proofs.run_image.Tie as tie
 
+sub-lent : tie.Need-sub-lent
+sub-lent c = search needs
+
+part-lent-start : tie.Need-part-lent-start
+part-lent-start c = search needs
+
+part-lent-end : tie.Need-part-lent-end
+part-lent-end c = search needs
+
 count-of-requires : tie.Need-count-of-requires
 count-of-requires c κs = search needs
+
+sub-windows-of : tie.Need-sub-windows-of
+sub-windows-of c = search needs
+
+part-windows-of-start : tie.Need-part-windows-of-start
+part-windows-of-start c = search needs
+
+part-windows-of-end : tie.Need-part-windows-of-end
+part-windows-of-end c = search needs
 
 windows-of-requires : tie.Need-windows-of-requires
 windows-of-requires c κs = search needs
@@ -30,7 +50,8 @@ returns : tie.Need-returns
 returns c =
     let opened = c .before .before .before .before .before .before in
     let read = opened .before in
-    let led = rw (opened .«open» .ensures, read .windows-of .ensures, read .before .count-of .ensures) at (c .before .before .before .before .run-from .ensures) in
+    let a = read .before .before .before .before .before .before .before .args in
+    let led = rw (opened .«open» .ensures, read .windows-of .ensures, read .before .before .count-of .ensures, from-place (now (a .image)) 0, from-place (now (a .map)) 0) at (c .before .before .before .before .run-from .ensures) in
     (c .report-fetched .ensures ∙ ap fetchedReport (led .0) ∙ sym (chosen _ _ _ (c .before .if1 .taken)), led .1)
 
 report-requires : tie.Need-report-requires
@@ -43,14 +64,21 @@ returns-2 : tie.Need-returns-2
 returns-2 c =
     let opened = c .before .before .before .before .before .before in
     let read = opened .before in
-    let led = rw (opened .«open» .ensures, read .windows-of .ensures, read .before .count-of .ensures) at (c .before .before .before .before .run-from .ensures) in
+    let a = read .before .before .before .before .before .before .before .args in
+    let led = rw (opened .«open» .ensures, read .windows-of .ensures, read .before .before .count-of .ensures, from-place (now (a .image)) 0, from-place (now (a .map)) 0) at (c .before .before .before .before .run-from .ensures) in
     (c .report .ensures ∙ ap reported (led .0) ∙ sym (passed _ _ _ (c .before .if1 .left)), led .1)
 
 pub run-image-spec : {M : Type 1} → statement M
 run-image-spec =
     tie.close
     (tie.spec
+    sub-lent
+    part-lent-start
+    part-lent-end
     count-of-requires
+    sub-windows-of
+    part-windows-of-start
+    part-windows-of-end
     windows-of-requires
     open-requires
     run-from-requires

@@ -1,15 +1,15 @@
--- `commands::judge_load` meets its contract: a load's range is judged for the load right.
+-- `commands::judge_load` meets its contract: a load is judged as a fill of bytes.
 use borrow.Author.Needs.{needs}
-use Rattle.commands.specs.Commands.{loadJudged}
+use mathlib.Core.Path.{_∙_}
+use Rattle.commands.proofs.Judging.{bytes-judged}
 use Rattle.commands.proofs.judge_load.Statement.{statement}
 use Rattle.commands.proofs.judge_load.Tie as tie
 
-judge-range-requires : tie.Need-judge-range-requires
-judge-range-requires c κs = search needs
+judge-fill-requires : tie.Need-judge-fill-requires
+judge-fill-requires c κs = search needs
 
 returns : tie.Need-returns
-unfolding loadJudged
-returns c = c .judge-range .ensures
+returns c = c .judge-fill .ensures ∙ bytes-judged _ _ _
 
 pub judge-load-spec : {M : Type 1} → statement M
-judge-load-spec = tie.close (tie.spec judge-range-requires returns)
+judge-load-spec = tie.close (tie.spec judge-fill-requires returns)

@@ -7,6 +7,9 @@ use Rattle.flash.specs.Step.{after}
 use Rattle.flash.proofs.finish.Statement.{statement}
 use Rattle.flash.proofs.finish.Tie as tie
 
+event-anew-requires : tie.Need-event-anew-requires
+event-anew-requires c κs = search needs
+
 number-requires : tie.Need-number-requires
 number-requires c κs = search needs
 
@@ -24,7 +27,7 @@ proceed-requires c κs = search needs
 
 returns : tie.Need-returns
 unfolding after
-returns c = rw (c .proceed .ensures, c .before .moved .ensures)
+returns c = rw (c .proceed .ensures, c .before .moved .ensures, c .before .before .before .before .before .event-anew .ensures)
     (sym (chosen _ _ _ (eq-eqb _ _ (sym (c .before .before .before .before .number .ensures) ∙ c .before .before .before .if1 .taken))))
 
 halt-requires : tie.Need-halt-requires
@@ -38,6 +41,7 @@ pub finish-spec : {M : Type 1} → statement M
 finish-spec =
     tie.close
     (tie.spec
+    event-anew-requires
     number-requires
     mul-offset
     add-offset

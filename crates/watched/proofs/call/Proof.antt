@@ -1,10 +1,10 @@
--- `watched::call` meets its contract: the call is the plain one, and what it tells that it wrote is stamped; where that is nothing, all is kept.
+-- `watched::call` meets its contract: the call is the plain one, and what it tells that it wrote is stamped; where that is nothing, or no word is chosen, all is kept.
 use mathlib.Core.Path.{sym, ap, _∙_}
 use denote.Ref.{now}
 use lib.ListN.{take}
 use borrow.Author.Needs.{needs}
 use Rattle.stamps.specs.Stamps.{stamped}
-use Rattle.stamps.proofs.Stamping.{none-written}
+use Rattle.stamps.proofs.Stamping.{none-taken, none-written}
 use Rattle.flash.specs.declared.Called.{Called}
 use Rattle.watched.proofs.call.Statement.{statement}
 use Rattle.watched.proofs.call.Tie as tie
@@ -27,19 +27,34 @@ returns c =
       ),
     )
 
-stamp-requires : tie.Need-stamp-requires
-stamp-requires c κs = search needs
-
 same-length-2 : tie.Need-same-length-2
 same-length-2 c = search needs
+
+returns-2 : tie.Need-returns-2
+returns-2 c =
+    let a = c .before .before .before .before .before .before .before .before .before .before .before .before .args in
+    let step = c .before .before .before .before .before .before .step in (
+      step .ensures .0,
+      (
+        step .ensures .1,
+        sym (none-taken _ _ _ _ (c .if2 .taken))
+            ∙ ap (λ (x : Called). stamped (now (a .entries)) (take (a .count) (now (a .places))) (x .wrote)) (step .ensures .0),
+      ),
+    )
+
+stamp-requires : tie.Need-stamp-requires
+stamp-requires c κs = search needs
 
 same-length-3 : tie.Need-same-length-3
 same-length-3 c = search needs
 
-returns-2 : tie.Need-returns-2
-returns-2 c =
-    let a = c .before .before .before .before .before .before .before .before .before .before .before .before .before .before .before .args in
-    let step = c .before .before .before .before .before .before .before .before .before .step in (
+same-length-4 : tie.Need-same-length-4
+same-length-4 c = search needs
+
+returns-3 : tie.Need-returns-3
+returns-3 c =
+    let a = c .before .before .before .before .before .before .before .before .before .before .before .before .before .before .before .before .args in
+    let step = c .before .before .before .before .before .before .before .before .before .before .step in (
       step .ensures .0,
       (
         step .ensures .1,
@@ -49,4 +64,4 @@ returns-2 c =
     )
 
 pub call-spec : {M : Type 1} → statement M
-call-spec = tie.close (tie.spec step-requires same-length returns stamp-requires same-length-2 same-length-3 returns-2)
+call-spec = tie.close (tie.spec step-requires same-length returns same-length-2 returns-2 stamp-requires same-length-3 same-length-4 returns-3)
