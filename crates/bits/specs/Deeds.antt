@@ -1,5 +1,5 @@
 -- What the command at an offset of an image is, and which bits of a chosen word it writes, by the words that it has there.
-use Prim.Native.Nat.{ℕ, _+_, _*_}
+use Prim.Native.Nat.{ℕ, _+_}
 use mathlib.Core.List.{List}
 use Rattle.words.specs.Bytes.{wordAt}
 use Rattle.script.specs.Opcodes.{lookedUp}
@@ -9,7 +9,7 @@ use Rattle.script.specs.declared.Dialect.the-variants.{Am17xx}
 use Rattle.script.specs.declared.Found.{Found}
 use Rattle.script.specs.declared.Found.the-variants.{Known, Retired, Unknown}
 use Rattle.script.specs.declared.Mode.the-variants.{Flash}
-use Rattle.commands.specs.Wrote.{bytesWrote, settingWrote}
+use Rattle.commands.specs.Wrote.{firstBit, bytesWrote, settingWrote}
 use Rattle.commands.specs.declared.Judged.the-variants.{Granted}
 use Rattle.commands.specs.declared.Wrote.{Wrote}
 use Rattle.stamps.specs.Stamps.{wordBitsBelow}
@@ -22,8 +22,8 @@ unfoldable pub spread : Kind → ℕ → Wrote → Deed
 spread k word w =
     record {
       kind = k;
-      from = wordBitsBelow word (8 * w .place + w .start);
-      to = wordBitsBelow word (8 * w .place + w .start + w .count);
+      from = wordBitsBelow word (firstBit w);
+      to = wordBitsBelow word (firstBit w + w .count);
     }
 
 abbrev pub noDeed : Deed
