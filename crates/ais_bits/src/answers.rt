@@ -1,27 +1,27 @@
 // What is told of a run and of a chosen word, a line each.
-use bits::Deed;
-use bits::Kind;
-use bits::Names;
-use bits::Part;
-use bits::Word;
-use register::Found;
+use bit_report::Deed;
+use bit_report::Kind;
+use bit_report::Names;
+use bit_report::Part;
+use bit_report::Word;
+use field_register::FoundLine;
 
 // How the run ended.
 pub fn outcome(entered: bool, code: u8, at: u32) {
     if entered {
-        printing::put(b"outcome=entered");
+        ais_printing::put(b"outcome=entered");
     } else {
-        printing::put(b"outcome=refused");
+        ais_printing::put(b"outcome=refused");
     }
-    printing::put_number(b" code=", code as u32);
-    printing::put_number(b" at=", at);
-    printing::put(b"\n");
+    ais_printing::put_number(b" code=", code as u32);
+    ais_printing::put_number(b" at=", at);
+    ais_printing::put(b"\n");
 }
 
 // The first and the last of some bits.
 fn put_bits(key: &[u8], start: u32, stop: u32) {
-    printing::put_number(key, start);
-    printing::put_number(b"..", stop);
+    ais_printing::put_number(key, start);
+    ais_printing::put_number(b"..", stop);
 }
 
 // The last bit before one.
@@ -36,28 +36,28 @@ fn last_before(end: u32) -> u32 {
 fn put_deed(deed: Deed) {
     let kind = deed.kind;
     match kind {
-        Kind::Load => printing::put(b" load"),
-        Kind::Fill => printing::put(b" fill"),
+        Kind::Load => ais_printing::put(b" load"),
+        Kind::Fill => ais_printing::put(b" fill"),
         Kind::Setting => put_bits(b" setting=", deed.from, last_before(deed.to)),
-        Kind::Other => printing::put(b" unknown"),
+        Kind::Other => ais_printing::put(b" unknown"),
     }
 }
 
 // A command by its number, its offset and what it is.
 fn put_command(number: u32, at: u32, deed: Deed) {
-    printing::put_number(b" command=", number);
-    printing::put_number(b" at=", at);
+    ais_printing::put_number(b" command=", number);
+    ais_printing::put_number(b" at=", at);
     put_deed(deed);
 }
 
 // The field of some bits, a dash for none.
-fn put_field(field: Found) {
+fn put_field(field: FoundLine) {
     if !field.found {
-        return printing::put(b" field=-");
+        return ais_printing::put(b" field=-");
     }
     let line = field.line;
     let name = line.name;
-    printing::put_name(b" field=", name);
+    ais_printing::put_name(b" field=", name);
 }
 
 // A line of bits of which the same is told; the field only where a register was given.
@@ -65,15 +65,19 @@ fn put_part(image: &[u8], named: bool, address: u32, part: Part) {
     let told = part.told;
     let field = told.field;
     put_bits(b"bits=", part.start, part.stop);
-    printing::put_number(b" value=", part.value);
+    ais_printing::put_number(b" value=", part.value);
     if named {
         put_field(field);
     }
     if told.number == 0 {
-        return printing::put(b" never written\n");
+        return ais_printing::put(b" never written\n");
     }
-    put_command(told.number, told.at, bits::deed_at(image, told.at, address));
-    printing::put(b"\n");
+    put_command(
+        told.number,
+        told.at,
+        bit_report::deed_at(image, told.at, address),
+    );
+    ais_printing::put(b"\n");
 }
 
 // The lines of a word.
@@ -88,7 +92,7 @@ fn put_parts(
 ) {
     let mut bit: u32 = 0;
     while bit < 32 {
-        let part = bits::part_from(value, numbers, offsets, names, word, bit);
+        let part = bit_report::part_from(value, numbers, offsets, names, word, bit);
         put_part(image, named, word.address, part);
         if part.stop < bit {
             return;
@@ -101,30 +105,30 @@ fn put_parts(
 }
 
 // A field, and whether a command writes all of it.
-fn put_written(field: Found, deed: Deed) {
+fn put_written(field: FoundLine, deed: Deed) {
     let line = field.line;
     let name = line.name;
-    if bits::reaches_out(line, deed.from, deed.to) {
-        printing::put(b"part of ");
+    if bit_report::reaches_out(line, deed.from, deed.to) {
+        ais_printing::put(b"part of ");
     } else {
-        printing::put(b"all of ");
+        ais_printing::put(b"all of ");
     }
-    printing::put_name(b"", name);
+    ais_printing::put_name(b"", name);
     put_bits(b" ", line.start, line.stop);
 }
 
 // The fields that a command writes.
 fn put_fields(names: Names, address: u32, deed: Deed) {
-    let mut bit = bits::first_field(names, address, deed.from, deed.to);
+    let mut bit = bit_report::first_field(names, address, deed.from, deed.to);
     while bit < deed.to {
-        let field = bits::field_at(names, address, bit);
+        let field = bit_report::field_at(names, address, bit);
         put_written(field, deed);
-        let next = bits::other_field(names, address, field, bit + 1, deed.to);
+        let next = bit_report::other_field(names, address, field, bit + 1, deed.to);
         if next <= bit {
             return;
         }
         if next < deed.to {
-            printing::put(b", ");
+            ais_printing::put(b", ");
         }
         bit = next;
     }
@@ -132,29 +136,29 @@ fn put_fields(names: Names, address: u32, deed: Deed) {
 
 // Points out a command that writes two fields, or a field only in part.
 fn put_warning(image: &[u8], number: u32, at: u32, names: Names, address: u32) {
-    let deed = bits::deed_at(image, at, address);
-    let two = bits::two_fields(names, address, deed);
-    let cut = bits::cut_field(names, address, deed);
+    let deed = bit_report::deed_at(image, at, address);
+    let two = bit_report::two_fields(names, address, deed);
+    let cut = bit_report::cut_field(names, address, deed);
     if !two && !cut {
         return;
     }
-    printing::put(b"warning:");
+    ais_printing::put(b"warning:");
     put_command(number, at, deed);
-    printing::put(b" writes ");
+    ais_printing::put(b" writes ");
     put_fields(names, address, deed);
-    printing::put(b"\n");
+    ais_printing::put(b"\n");
 }
 
 // Looks at the command of a bit, where the bit is the lowest that it wrote last.
 fn look_at(image: &[u8], numbers: &[u8], offsets: &[u8], names: Names, word: Word, bit: u32) {
-    let number = bits::entry(numbers, word.index, bit);
+    let number = bit_report::entry(numbers, word.index, bit);
     if number == 0 {
         return;
     }
-    if !bits::is_first(numbers, offsets, word.index, bit) {
+    if !bit_report::is_first(numbers, offsets, word.index, bit) {
         return;
     }
-    let at = bits::entry(offsets, word.index, bit);
+    let at = bit_report::entry(offsets, word.index, bit);
     put_warning(image, number, at, names, word.address);
 }
 
@@ -177,27 +181,27 @@ pub fn word(
     named: bool,
     word: Word,
 ) {
-    printing::put_word(b"word=", word.address);
-    printing::put_word(b" value=", value);
-    printing::put(b"\n");
+    ais_printing::put_word(b"word=", word.address);
+    ais_printing::put_word(b" value=", value);
+    ais_printing::put(b"\n");
     put_parts(image, value, numbers, offsets, names, named, word);
     put_warnings(image, numbers, offsets, names, word);
 }
 
 // A register that is refused, by its number and the line.
 pub fn refused_register(number: u8, line: usize) {
-    printing::put_number(b"refusal=", number as u32);
-    printing::put(b" line ");
+    ais_printing::put_number(b"refusal=", number as u32);
+    ais_printing::put(b" line ");
     io::print_decimal(libc::STDOUT_FILENO, line as u64);
     match number {
-        26 => printing::put(b" of the register is malformed, or beyond the 200th\n"),
-        _ => printing::put(b" of the register clashes with an earlier one\n"),
+        26 => ais_printing::put(b" of the register is malformed, or beyond the 200th\n"),
+        _ => ais_printing::put(b" of the register clashes with an earlier one\n"),
     }
 }
 
 // Words that are refused.
 pub fn refused_words() {
-    printing::put(
+    ais_printing::put(
         b"refusal=24 more than 64 words, or one that is no multiple of 4, is named twice, or does not lie in the window\n",
     );
 }

@@ -4,20 +4,20 @@ mod answers;
 
 ghost use Prim.Native.Nat.{_*_, _≤_};
 ghost use lib.ListN.{length};
-use bits::Names;
-use bits::Word;
-use lines::Number;
+use bit_report::Names;
+use bit_report::Word;
+use field_lines::Number;
 use words::Unit;
 
 fn usage() {
-    printing::put(b"usage: ais-bits [--register FILE RELEASE] FILE WORD..\n");
+    ais_printing::put(b"usage: ais-bits [--register FILE RELEASE] FILE WORD..\n");
 }
 
 // A number given as an argument.
 fn number_at(i: usize) -> Number {
     let mut room = [0u8; 16];
     let n = os::arg(i, &mut room);
-    lines::given(&room[..n])
+    field_lines::given(&room[..n])
 }
 
 // Is the first argument the word that a register follows?
@@ -140,9 +140,9 @@ fn with_register(release: u32) {
     }
     let n = io::read_full(file, &mut room);
     libc::close(file);
-    let reading = register::read(&room[..n]);
+    let reading = field_register::read(&room[..n]);
     let refusal = reading.refusal;
-    let number = refusal.number();
+    let number = refusal.code();
     if number != 0 {
         return answers::refused_register(number, reading.line);
     }
@@ -153,7 +153,7 @@ fn with_register(release: u32) {
 // The bits have no names: the register of no line has none.
 fn with_no_register() {
     let none = [0u8; 1];
-    let reading = register::read(&none[..0]);
+    let reading = field_register::read(&none[..0]);
     let register = reading.register;
     with_words(
         1,

@@ -1,23 +1,23 @@
 // The check program: reads an image on standard input and writes what becomes of it, in six lines. With an argument the image is a DM648's, else an AM17xx's.
 use checking::Report;
 use libc::STDIN_FILENO;
-use script::Dialect;
+use opcodes::Dialect;
 
 fn put_number(name: &[u8], value: u32) {
-    printing::put_number(name, value);
-    printing::put(b"\n");
+    ais_printing::put_number(name, value);
+    ais_printing::put(b"\n");
 }
 
 fn put_word(name: &[u8], value: u32) {
-    printing::put_word(name, value);
-    printing::put(b"\n");
+    ais_printing::put_word(name, value);
+    ais_printing::put(b"\n");
 }
 
 fn put_report(report: Report) {
     if report.entered {
-        printing::put(b"outcome=entered\n");
+        ais_printing::put(b"outcome=entered\n");
     } else {
-        printing::put(b"outcome=refused\n");
+        ais_printing::put(b"outcome=refused\n");
     }
     put_number(b"code=", report.code as u32);
     put_number(b"at=", report.at);

@@ -1,8 +1,8 @@
 // The images and cases in the order of the stored output.
-use transcripts::images;
-use transcripts::runs;
-use transcripts::runs::Flip;
-use transcripts::runs::Setting;
+use ais_transcripts::images;
+use ais_transcripts::runs;
+use ais_transcripts::runs::Flip;
+use ais_transcripts::runs::Setting;
 
 // As 000's images are run.
 pub fn at_table(limit: u8, one: Flip, two: Flip) -> Setting {

@@ -1,12 +1,12 @@
 // Whole sent sessions: each word, what was replied to it, and the end.
-use script::Dialect;
+use ais_transcripts::ends;
+use ais_transcripts::images;
+use ais_transcripts::runs;
+use ais_transcripts::text;
+use machine::Reply;
+use opcodes::Dialect;
 use sent::Answer;
-use sent::Reply;
 use sent::Session;
-use transcripts::ends;
-use transcripts::images;
-use transcripts::runs;
-use transcripts::text;
 
 // Ping, two words to echo, the first of them like an opcode; then Jump & Close.
 const PING: [u32; 6] = [
@@ -88,7 +88,7 @@ fn start(name: &[u8], dialect: Dialect, first: u32, memory: &mut [u8]) -> Answer
     answer
 }
 
-// The host compares the register that a Request sent with what it expects.
+// The host compares the checksum that a Request sent with what it expects.
 fn compare(asked: Answer, expected: u32) {
     let reply = asked.reply;
     let bytes = reply.bytes;
@@ -103,9 +103,9 @@ fn show_end(last: Answer) {
     let core = last.session.core;
     let tally = core.tally;
     ends::show_outcome(event.kind());
-    text::number_line(b"code=", refusal.number() as u64);
+    text::number_line(b"code=", refusal.code() as u64);
     text::word_line(b"entry=", event.value());
-    text::word_line(b"crc=", tally.register);
+    text::word_line(b"crc=", tally.checksum);
 }
 
 // A session of 01's window.
@@ -130,7 +130,7 @@ pub fn retired() {
     run(b"load-then-jump", &images::OLD[1..7]);
 }
 
-// Words up to a Request, whose register the host compares.
+// Words up to a Request, whose checksum the host compares.
 fn send_section(begun: Answer, memory: &mut [u8], listed: &[u32], expected: u32) -> Answer {
     let asked = send_words(begun, memory, listed);
     compare(asked, expected);

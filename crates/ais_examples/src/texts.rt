@@ -1,19 +1,19 @@
 // Figure 13 of source 000, a text: read into an image and written out again, and the image run; and what texts of one word leave in a room.
 use crate::cases;
+use ais_transcripts::ends;
+use ais_transcripts::runs;
+use ais_transcripts::runs::Flip;
+use ais_transcripts::text;
 use checking::Report;
-use script::Dialect;
-use transcripts::ends;
-use transcripts::runs;
-use transcripts::runs::Flip;
-use transcripts::text;
+use opcodes::Dialect;
 
 // What reading a text and writing its image answer, and the digits that come back.
 fn turn(name: &[u8], digits: &[u8], image: &mut [u8], back: &mut [u8]) {
     text::text_line(b"text=", name);
     let read = hex::read(digits, image);
-    text::number_line(b"read=", read.number() as u64);
+    text::number_line(b"read=", read.code() as u64);
     let written = hex::write(image, back);
-    text::number_line(b"written=", written.number() as u64);
+    text::number_line(b"written=", written.code() as u64);
     text::text_line(b"digits=", back);
     text::write(b"\n");
 }
@@ -60,7 +60,7 @@ pub fn figures() {
 fn read_into(name: &[u8], digits: &[u8], room: &mut [u8]) {
     text::text_line(b"text=", name);
     let read = hex::read(digits, room);
-    text::number_line(b"read=", read.number() as u64);
+    text::number_line(b"read=", read.code() as u64);
     text::write(b"room=");
     text::listed(room);
     text::write(b"\n\n");

@@ -2,7 +2,7 @@
 use libc::STDERR_FILENO;
 use libc::STDIN_FILENO;
 use libc::STDOUT_FILENO;
-use script::Refusal;
+use opcodes::Refusal;
 
 fn say(text: &[u8]) {
     io::write_all(STDERR_FILENO, text);
@@ -19,7 +19,7 @@ fn main() {
     let mut image = [0u8; 65540];
     let n = io::read_full(STDIN_FILENO, &mut image);
     let mut text = [0u8; 131072];
-    let converted = conversions::to_text(&image[..n], &mut text);
+    let converted = hex::conversions::to_text(&image[..n], &mut text);
     let refusal = converted.refusal;
     let length = converted.length;
     match refusal {

@@ -1,70 +1,70 @@
 // The program's answers, each a line of key=value words.
 use crate::text;
-use register::Found;
-use register::Register;
-use register::Subject;
+use field_register::FoundLine;
+use field_register::Register;
+use field_register::Subject;
 
 // A good register.
 pub fn good(register: Register) {
-    printing::put(b"register=good lines=");
+    ais_printing::put(b"register=good lines=");
     io::print_decimal(libc::STDOUT_FILENO, register.count as u64);
-    printing::put(b"\n");
+    ais_printing::put(b"\n");
 }
 
 // A refused one, with the line that is refused.
 pub fn refused(bytes: &[u8], number: u8, line: usize) {
-    printing::put(b"register=refused line=");
+    ais_printing::put(b"register=refused line=");
     io::print_decimal(libc::STDOUT_FILENO, line as u64);
-    printing::put(b" ");
+    ais_printing::put(b" ");
     text::put_refusal(number);
     text::show_line(bytes, line);
 }
 
 // The field that a bit is in a release, and since when.
 pub fn bit(register: Register, word: u32, bit: u32, release: u32) {
-    let found = register::field_of(register, word, bit, release);
+    let found = field_register::field_of(register, word, bit, release);
     if !found.found {
         return text::put_refusal(28);
     }
     let line = found.line;
     let name = line.name;
-    printing::put_name(b"field=", name);
-    printing::put_number(b" since=", line.since);
-    printing::put(b"\n");
+    ais_printing::put_name(b"field=", name);
+    ais_printing::put_number(b" since=", line.since);
+    ais_printing::put(b"\n");
 }
 
 // The releases of a stretch; until=0 has no end.
 fn put_releases(from: u32, last: u32) {
-    printing::put_number(b" since=", from);
-    printing::put_number(b" until=", last);
-    printing::put(b"\n");
+    ais_printing::put_number(b" since=", from);
+    ais_printing::put_number(b" until=", last);
+    ais_printing::put(b"\n");
 }
 
 // What a bit is in a stretch of releases.
-fn put_field(found: Found) {
+fn put_field(found: FoundLine) {
     if !found.found {
-        return printing::put(b"field=-");
+        return ais_printing::put(b"field=-");
     }
     let line = found.line;
     let name = line.name;
-    printing::put_name(b"field=", name);
+    ais_printing::put_name(b"field=", name);
 }
 
 // Where a field is in a stretch of releases.
-fn put_place(name: [u8; 16], found: Found) {
-    printing::put_name(b"field=", name);
+fn put_place(name: [u8; 16], found: FoundLine) {
+    ais_printing::put_name(b"field=", name);
     if !found.found {
-        return printing::put(b" word=- start=- stop=-");
+        return ais_printing::put(b" word=- start=- stop=-");
     }
     let line = found.line;
-    printing::put_word(b" word=", line.word);
-    printing::put_number(b" start=", line.start);
-    printing::put_number(b" stop=", line.stop);
+    ais_printing::put_word(b" word=", line.word);
+    ais_printing::put_number(b" start=", line.start);
+    ais_printing::put_number(b" stop=", line.stop);
 }
 
 // One stretch, and the release behind it; 0 where it has no end.
 fn put_stretch(register: Register, subject: Subject, from: u32) -> u32 {
-    let stretch = register::stretch_from(register, subject, from);
+    let stretch = field_register::stretch_from(register, subject, from);
     let found = stretch.found;
     if subject.named {
         let name = subject.name;
@@ -100,13 +100,13 @@ pub fn history(register: Register, subject: Subject) {
 
 // Where a field was, release by release.
 pub fn field(register: Register, name: &[u8]) {
-    let given = lines::name_of(name);
+    let given = field_lines::name_of(name);
     if !given.good {
         return text::put_refusal(28);
     }
     let letters = given.name;
-    let subject = register::the_name(letters);
-    let first = register::stretch_from(register, subject, 1);
+    let subject = field_register::the_name(letters);
+    let first = field_register::stretch_from(register, subject, 1);
     if !first.found.found && first.last == 0 {
         return text::put_refusal(28);
     }
@@ -115,17 +115,17 @@ pub fn field(register: Register, name: &[u8]) {
 
 // The five words of the command that sets a field.
 pub fn setting(register: Register, name: &[u8], release: u32, value: u32) {
-    let made = register::command(register, name, release, value);
+    let made = field_register::command(register, name, release, value);
     let refusal = made.refusal;
-    let number = refusal.number();
+    let number = refusal.code();
     if number != 0 {
         return text::put_refusal(number);
     }
     let words = made.words;
-    printing::put_word(b"opcode=", words[0]);
-    printing::put_word(b" type=", words[1]);
-    printing::put_word(b" address=", words[2]);
-    printing::put_word(b" data=", words[3]);
-    printing::put_word(b" delay=", words[4]);
-    printing::put(b"\n");
+    ais_printing::put_word(b"opcode=", words[0]);
+    ais_printing::put_word(b" type=", words[1]);
+    ais_printing::put_word(b" address=", words[2]);
+    ais_printing::put_word(b" data=", words[3]);
+    ais_printing::put_word(b" delay=", words[4]);
+    ais_printing::put(b"\n");
 }

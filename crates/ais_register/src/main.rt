@@ -2,14 +2,14 @@
 mod answers;
 mod text;
 
-use lines::Number;
-use register::Register;
+use field_lines::Number;
+use field_register::Register;
 
 // A number given as an argument.
 fn number_at(i: usize) -> Number {
     let mut room = [0u8; 16];
     let n = os::arg(i, &mut room);
-    lines::given(&room[..n])
+    field_lines::given(&room[..n])
 }
 
 // Is the argument this word?
@@ -41,7 +41,7 @@ fn ask_history(register: Register) {
     let Number::Is(bit) = number_at(3) else {
         return text::usage();
     };
-    answers::history(register, register::the_bit(word, bit));
+    answers::history(register, field_register::the_bit(word, bit));
 }
 
 // field NAME
@@ -90,9 +90,9 @@ fn main() {
     let mut room = [0u8; 65536];
     let n = io::read_full(libc::STDIN_FILENO, &mut room);
     let text = &room[..n];
-    let reading = register::read(text);
+    let reading = field_register::read(text);
     let refusal = reading.refusal;
-    let number = refusal.number();
+    let number = refusal.code();
     if number != 0 {
         return answers::refused(text, number, reading.line);
     }

@@ -4,19 +4,19 @@ ghost use lib.ListN.{length};
 
 // A refusal's number, and its meaning.
 pub fn put_refusal(number: u8) {
-    printing::put_number(b"refusal=", number as u32);
+    ais_printing::put_number(b"refusal=", number as u32);
     match number {
-        16 => printing::put(b" the value is too wide for the field\n"),
-        26 => printing::put(b" the line is malformed, or beyond the 200th\n"),
-        27 => printing::put(
+        16 => ais_printing::put(b" the value is too wide for the field\n"),
+        26 => ais_printing::put(b" the line is malformed, or beyond the 200th\n"),
+        27 => ais_printing::put(
             b" the line clashes with an earlier one: a release has both, and they share a name or a bit of one word\n",
         ),
-        _ => printing::put(b" no such field in that release\n"),
+        _ => ais_printing::put(b" no such field in that release\n"),
     }
 }
 
 pub fn usage() {
-    printing::put(
+    ais_printing::put(
         b"usage: ais-register FILE [bit WORD BIT [RELEASE] | field NAME | set NAME RELEASE VALUE]\n",
     );
 }
@@ -54,8 +54,8 @@ fn put_line(line: &[u8]) {
         room[i] = shown(line[i]);
         i += 1;
     }
-    printing::put(&room[..n]);
-    printing::put(b"\n");
+    ais_printing::put(&room[..n]);
+    ais_printing::put(b"\n");
 }
 
 // Where a line of a text begins, counted from 1.

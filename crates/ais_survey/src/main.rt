@@ -4,33 +4,33 @@ ghost use lib.ListN.{length};
 ghost use Rattle.io.specs.Counts.{Counts};
 use libc::STDIN_FILENO;
 use survey::Image;
-use survey::Line;
 use survey::Outcome;
 use survey::Survey;
-use survey::Totals;
+use survey::SurveyLine;
+use survey::SurveyTotals;
 
 fn put_outcome(outcome: Outcome) {
     match outcome {
-        Outcome::Entered => printing::put(b" outcome=entered"),
-        Outcome::Refused => printing::put(b" outcome=refused"),
-        Outcome::Absent => printing::put(b" outcome=absent"),
+        Outcome::Entered => ais_printing::put(b" outcome=entered"),
+        Outcome::Refused => ais_printing::put(b" outcome=refused"),
+        Outcome::Absent => ais_printing::put(b" outcome=absent"),
     }
 }
 
-fn put_line(line: Line) {
+fn put_line(line: SurveyLine) {
     let outcome = line.outcome;
-    printing::put_number(b"image=", line.image);
+    ais_printing::put_number(b"image=", line.image);
     put_outcome(outcome);
-    printing::put_number(b" set=", line.set);
-    printing::put_number(b" differ=", line.differ);
-    printing::put(b"\n");
+    ais_printing::put_number(b" set=", line.set);
+    ais_printing::put_number(b" differ=", line.differ);
+    ais_printing::put(b"\n");
 }
 
-fn put_totals(totals: Totals) {
-    printing::put_number(b"images=", totals.images);
-    printing::put_number(b" entered=", totals.entered);
-    printing::put_number(b" differ=", totals.differ);
-    printing::put(b"\n");
+fn put_totals(totals: SurveyTotals) {
+    ais_printing::put_number(b"images=", totals.images);
+    ais_printing::put_number(b" entered=", totals.entered);
+    ais_printing::put_number(b" differ=", totals.differ);
+    ais_printing::put(b"\n");
 }
 
 // Which byte of what was read of the list is next, and how many were read.

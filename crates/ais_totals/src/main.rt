@@ -1,12 +1,12 @@
 // The images of source 000 from flash as a DM648's, with their totals and with others, and a run whose totals would pass the largest. The stored output is
 // what 000 and 02 say.
+use ais_transcripts::images;
+use ais_transcripts::runs::Flip;
+use ais_transcripts::runs::Setting;
+use ais_transcripts::text;
 use flash::Called;
 use flash::Session;
-use script::Dialect;
-use transcripts::images;
-use transcripts::runs::Flip;
-use transcripts::runs::Setting;
-use transcripts::text;
+use opcodes::Dialect;
 use windows::Window;
 
 // As 000's images are run.
@@ -28,7 +28,7 @@ fn table(case: &[u8], limit: u8, one: Flip, sections: u32, bytes: u32) {
     images::put_word(&mut image, 140, sections);
     images::put_word(&mut image, 144, bytes);
     let setting = at_table(limit, one);
-    transcripts::runs::run_as(Dialect::Dm648, b"table-19", case, setting, &mut image);
+    ais_transcripts::runs::run_as(Dialect::Dm648, b"table-19", case, setting, &mut image);
 }
 
 // Its own totals, also where a section is read again; then others, and none.
@@ -44,7 +44,7 @@ fn tables() {
     let mut image = [0u8; 140];
     images::put_table(&mut image);
     let setting = at_table(0, Flip::None);
-    transcripts::runs::run_as(
+    ais_transcripts::runs::run_as(
         Dialect::Dm648,
         b"table-19",
         b"no-totals",
@@ -56,7 +56,7 @@ fn tables() {
 // A fill of all of a window of 64 KiB.
 const FILL: [u32; 5] = [0x5853_590A, 0x8000_0000, 0x0001_0000, 2, 0];
 
-// A Request that matches the register 0, and one that never does and seeks to the first command.
+// A Request that matches the checksum 0, and one that never does and seeks to the first command.
 const MATCHING: [u32; 3] = [0x5853_5902, 0, 0];
 
 const SEEKING: [u32; 3] = [0x5853_5902, 1, 0xFFFF_EBE8];
@@ -72,7 +72,7 @@ fn put_fills(image: &mut [u8]) {
 
 // What the run ended with, and what it counted.
 fn show(last: Called) {
-    transcripts::runs::show_end(last);
+    ais_transcripts::runs::show_end(last);
     let totals = last.session.totals;
     let now = totals.now;
     let sections = now.sections;
@@ -107,7 +107,7 @@ fn overflow() {
     let session = opened.session;
     let mut memory = [0u8; 65536];
     text::text_line(b"image=", b"256-fills-of-64-KiB");
-    show(runs::run(session, &mut memory, &image));
+    show(flash_runs::run(session, &mut memory, &image));
 }
 
 fn main() {

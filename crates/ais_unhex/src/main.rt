@@ -2,7 +2,7 @@
 use libc::STDERR_FILENO;
 use libc::STDIN_FILENO;
 use libc::STDOUT_FILENO;
-use script::Refusal;
+use opcodes::Refusal;
 
 fn say(text: &[u8]) {
     io::write_all(STDERR_FILENO, text);
@@ -19,7 +19,7 @@ fn main() {
     let mut text = [0u8; 131080];
     let n = io::read_full(STDIN_FILENO, &mut text);
     let mut image = [0u8; 65536];
-    let converted = conversions::to_image(&text[..n], &mut image);
+    let converted = hex::conversions::to_image(&text[..n], &mut image);
     let refusal = converted.refusal;
     let length = converted.length;
     match refusal {

@@ -7,19 +7,19 @@ use mathlib.Core.Path.{_≡_, ap}
 use lib.ListN.{length}
 use borrow.Author.Tests.{eq-eqb, ne-eqb, lt-ltb, le-ltb}
 use Rattle.words.proofs.Choice.{chosen, passed}
-use Rattle.windows.specs.Window.{sumOf}
-use Rattle.script.specs.Answers.{numberOf}
-use Rattle.script.specs.declared.Refusal.{Refusal}
-use Rattle.script.specs.declared.Refusal.the-variants as refusal
-use Rattle.flash.specs.Opening.{openedBy, numberingFrom}
+use Rattle.windows.specs.rules.Window.{sumOf}
+use Rattle.opcodes.specs.rules.Answers.{codeOf}
+use Rattle.opcodes.specs.declared.Refusal.{Refusal}
+use Rattle.opcodes.specs.declared.Refusal.the-variants as refusal
+use Rattle.flash.specs.rules.Opening.{openedBy, numberingFrom}
 use Rattle.flash.specs.declared.Opened.{Opened}
-use Rattle.runs.specs.Run.{runOf}
-use Rattle.chosen.specs.declared.Choice.{Choice}
-use Rattle.watched.specs.Watched.{runEntries}
-use Rattle.maps.specs.Map.{windowsOf, countOf}
-use Rattle.feeding.specs.Numbers.{cleared, choiceOn, placesIn, barred, dialectOf}
-use Rattle.bench.specs.Bits.{Noted, unrun, bitsFrom, bitsRun}
-use Rattle.bench.specs.Runs.{reported}
+use Rattle.flash_runs.specs.rules.Run.{runOf}
+use Rattle.bit_choice.specs.declared.Choice.{Choice}
+use Rattle.bit_watch.specs.rules.Watched.{runEntries}
+use Rattle.bench.specs.rules.Map.{windowsOf, countOf}
+use Rattle.bench.specs.rules.Numbers.{cleared, choiceOn, placesIn, barred, dialectOf}
+use Rattle.bench.specs.rules.Bits.{Noted, unrun, bitsFrom, bitsRun}
+use Rattle.bench.specs.rules.Runs.{reported}
 
 -- what holds of one end holds of another that is the same
 pub noted : {w v : Noted} {value : ℕ} {memory numbers : List ℕ} → w ≡ v → (value ≡ v .value) × ((memory ≡ v .memory) × (numbers ≡ v .numbers))
@@ -31,11 +31,11 @@ module _ (o : Opened) (choice : Choice) (m numbers image : List ℕ) where
   abbrev why : Refusal
   why = barred (o .refusal) choice (length numbers) (length m) (sumOf (o .session .windows))
 
-  pub from-barred : numberOf why ≢ 0 → bitsFrom o choice m numbers image ≡ unrun why m numbers
+  pub from-barred : codeOf why ≢ 0 → bitsFrom o choice m numbers image ≡ unrun why m numbers
   unfolding bitsFrom
   from-barred e = chosen _ _ _ (ap not (ne-eqb _ _ e))
 
-  pub from-run : numberOf why ≡ 0 → bitsFrom o choice m numbers image
+  pub from-run : codeOf why ≡ 0 → bitsFrom o choice m numbers image
       ≡ record {
         value = reported (runOf (o .session) m image .answer);
         memory = runOf (o .session) m image .memory;

@@ -7,18 +7,18 @@ use lib.ListN.{length}
 use borrow.Author.Tests.{not-false}
 use Rattle.words.proofs.Choice.{of-choice}
 use Rattle.windows.specs.declared.Window.{Window}
-use Rattle.script.specs.declared.Dialect.{Dialect}
-use Rattle.flash.specs.Calls.{Way, forward, back, kept, Call}
-use Rattle.flash.specs.Opening.{openedBy, numberingFrom}
-use Rattle.flash.specs.Sessions.{Outcome}
-use Rattle.flash.specs.Step.{stepOf}
+use Rattle.opcodes.specs.declared.Dialect.{Dialect}
+use Rattle.flash.specs.claims.Calls.{Way, forward, back, kept, Call}
+use Rattle.flash.specs.rules.Opening.{openedBy, numberingFrom}
+use Rattle.flash.specs.rules.Sessions.{CallOutcome}
+use Rattle.flash.specs.rules.Step.{stepOf}
 use Rattle.flash.specs.declared.Called.{Called}
 use Rattle.flash.specs.declared.Opened.{Opened}
 use Rattle.flash.specs.declared.Session.{Session}
 use Rattle.flash.proofs.Calls.{every-call}
 use Rattle.flash.proofs.Cases.{length-small}
-use Rattle.runs.specs.Run.{carriedOn, enough, runOf}
-use Rattle.bench.specs.Runs.{ranFrom}
+use Rattle.flash_runs.specs.rules.Run.{carriedOn, enough, runOf}
+use Rattle.bench.specs.rules.Runs.{ranFrom}
 
 module _ (bound : ℕ) where
   -- a session whose offset and length are within the bound
@@ -39,12 +39,12 @@ module _ (bound : ℕ) where
 
   module _ (image : List ℕ) where
     -- calls from an answer within the bound report an offset within it
-    carried-at : (n : ℕ) (o : Outcome) → o .answer .at ≤ bound → Within (o .answer .session) → carriedOn n o image .answer .at ≤ bound
+    carried-at : (n : ℕ) (o : CallOutcome) → o .answer .at ≤ bound → Within (o .answer .session) → carriedOn n o image .answer .at ≤ bound
     unfolding carriedOn
     carried-at zero o h standing = h
     carried-at (suc n) o h standing =
         let call = every-call (o .answer .session) (o .memory) image in
-        of-choice (λ (x : Outcome). x .answer .at ≤ bound) _
+        of-choice (λ (x : CallOutcome). x .answer .at ≤ bound) _
         (λ more. carried-at n _ (call-at standing call) (call-within standing call)) (λ none. h)
 
     pub run-at : (s : Session) (m : List ℕ) → Within s → runOf s m image .answer .at ≤ bound
@@ -77,5 +77,5 @@ pub ran-at : (dialect : Dialect) (count : ℕ) (windows : List Window) (m image 
     → ranFrom (openedBy dialect count windows image limit) m image .answer .at ≤ 65536
 unfolding ranFrom
 ran-at dialect count windows m image limit =
-    of-choice (λ (o : Outcome). o .answer .at ≤ 65536) _
+    of-choice (λ (o : CallOutcome). o .answer .at ≤ 65536) _
     (λ e. run-at 65536 image _ m (opened-within dialect count windows image limit)) (λ e. omega arith)

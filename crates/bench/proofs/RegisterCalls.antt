@@ -7,19 +7,19 @@ use borrow.Author.Tests.{lt-ltb, le-ltb, eq-eqb, ne-eqb}
 use lib.ListN.{length, take, drop}
 use lib.Seq.{take-length}
 use Rattle.words.proofs.Choice.{chosen, passed}
-use Rattle.register.specs.Refusals.{numberOf}
-use Rattle.register.specs.declared.Found.{Found}
-use Rattle.register.specs.declared.Reading.{Reading}
-use Rattle.register.specs.declared.Refusal.the-variants.{Room, NoField}
-use Rattle.register.specs.declared.Setting.{Setting}
-use Rattle.bench.specs.Registers.{readValue, Told, refused, questioned, nameTold, fiveWritten, commandTold}
+use Rattle.field_register.specs.rules.Refusals.{fieldCode}
+use Rattle.field_register.specs.declared.FoundLine.{FoundLine}
+use Rattle.field_register.specs.declared.Reading.{Reading}
+use Rattle.field_register.specs.declared.FieldRefusal.the-variants.{Room, NoField}
+use Rattle.field_register.specs.declared.Setting.{Setting}
+use Rattle.bench.specs.rules.Registers.{readValue, Told, refused, questioned, nameTold, fiveWritten, commandTold}
 
 module _ (q : Reading) where
-  pub value-count : numberOf (q .refusal) ≡ 0 → q .register .count ≡ readValue q
+  pub value-count : fieldCode (q .refusal) ≡ 0 → q .register .count ≡ readValue q
   unfolding readValue
   value-count e = sym (chosen _ _ _ (eq-eqb _ _ e))
 
-  pub value-refused : (numberOf (q .refusal) ≡ 0 → ⊥) → numberOf (q .refusal) * 2 ^ 32 + q .line ≡ readValue q
+  pub value-refused : (fieldCode (q .refusal) ≡ 0 → ⊥) → fieldCode (q .refusal) * 2 ^ 32 + q .line ≡ readValue q
   unfolding readValue
   value-refused never = sym (passed _ _ _ (ne-eqb _ _ never))
 
@@ -28,15 +28,15 @@ module _ (q : Reading) where
     unfolding questioned
     no-room h = sym (chosen _ _ _ (lt-ltb _ _ h))
 
-    pub text-refused : least ≤ length room → (numberOf (q .refusal) ≡ 0 → ⊥) → record { value = readValue q; room = room } ≡ questioned least q room answer
+    pub text-refused : least ≤ length room → (fieldCode (q .refusal) ≡ 0 → ⊥) → record { value = readValue q; room = room } ≡ questioned least q room answer
     unfolding questioned
     text-refused h never = sym (passed _ _ _ (le-ltb _ _ h) ∙ chosen _ _ _ (ap not (ne-eqb _ _ never)))
 
-    pub answered : least ≤ length room → numberOf (q .refusal) ≡ 0 → answer ≡ questioned least q room answer
+    pub answered : least ≤ length room → fieldCode (q .refusal) ≡ 0 → answer ≡ questioned least q room answer
     unfolding questioned
     answered h e = sym (passed _ _ _ (le-ltb _ _ h) ∙ passed _ _ _ (ap not (eq-eqb _ _ e)))
 
-module _ (f : Found) (room : List ℕ) where
+module _ (f : FoundLine) (room : List ℕ) where
   pub name-none : f .found ≡ false → refused NoField room ≡ nameTold f room
   unfolding nameTold
   name-none e = sym (chosen _ _ _ (ap not e))
@@ -50,10 +50,10 @@ pub copied-whole : (name room : List ℕ) → length name ≡ 16 → take (lengt
 copied-whole name room e = rw (take-length name, e)
 
 module _ (made : Setting) (room : List ℕ) where
-  pub command-none : (numberOf (made .refusal) ≡ 0 → ⊥) → refused (made .refusal) room ≡ commandTold made room
+  pub command-none : (fieldCode (made .refusal) ≡ 0 → ⊥) → refused (made .refusal) room ≡ commandTold made room
   unfolding commandTold
   command-none never = sym (chosen _ _ _ (ap not (ne-eqb _ _ never)))
 
-  pub command-some : numberOf (made .refusal) ≡ 0 → record { value = 0; room = fiveWritten room (made .words) } ≡ commandTold made room
+  pub command-some : fieldCode (made .refusal) ≡ 0 → record { value = 0; room = fiveWritten room (made .words) } ≡ commandTold made room
   unfolding commandTold
   command-some e = sym (passed _ _ _ (ap not (eq-eqb _ _ e)))

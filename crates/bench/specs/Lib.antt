@@ -1,4 +1,1 @@
-pub mod Bits
-pub mod Fetched
-pub mod Registers
-pub mod Runs
+pub mod rules

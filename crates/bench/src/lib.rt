@@ -1,45 +1,47 @@
 // The bench's entries for C: whole sessions on byte slices, answered by one number.
+pub mod feeding;
+pub mod maps;
 pub mod registers;
 
 ghost use mathlib.Core.Path.{_≡_};
 ghost use Prim.Native.Nat.{_+_, _*_, _/_, _^_, _≤_};
-ghost use Rattle.words.specs.Choice.{pick};
-ghost use Rattle.script.specs.Answers.{numberOf};
-ghost use Rattle.hex.specs.Text.{readAnswer, readRoom, writeAnswer, writeRoom};
-ghost use Rattle.feeding.specs.Feeding.{tallied, laidIn, sentValue, sentMemory, sentRoom, lineSession};
-ghost use Rattle.feeding.specs.Numbers.{bitsSession};
-ghost use Rattle.bench.specs.Bits.{bitsFrom, bitsRun};
-ghost use Rattle.bench.specs.Fetched.{fetchedReport, fetchedValue};
-ghost use Rattle.bench.specs.Runs.{ranFrom, reported, flashValue, flashMemory};
-use chosen::Choice;
+ghost use Rattle.words.specs.rules.Choice.{pick};
+ghost use Rattle.opcodes.specs.rules.Answers.{codeOf};
+ghost use Rattle.hex.specs.rules.Text.{readAnswer, readRoom, writeAnswer, writeRoom};
+ghost use Rattle.bench.specs.rules.Feeding.{tallied, laidIn, sentValue, sentMemory, sentRoom, lineSession};
+ghost use Rattle.bench.specs.rules.Numbers.{bitsSession};
+ghost use Rattle.bench.specs.rules.Bits.{bitsFrom, bitsRun};
+ghost use Rattle.bench.specs.rules.Fetched.{fetchedReport, fetchedValue};
+ghost use Rattle.bench.specs.rules.Runs.{ranFrom, reported, flashValue, flashMemory};
+use bit_choice::Choice;
 use flash::Called;
 use flash::Opened;
 use flash::Session;
-use script::Dialect;
-use script::Event;
-use script::Refusal;
+use opcodes::Dialect;
+use opcodes::Event;
+use opcodes::Refusal;
 use sent::Bus;
 
-// Four numbers in one: refusal, retries, an offset in words, register.
-fn pack(refusal: u8, retries: u8, at: u32, register: u32) -> u64
+// Four numbers in one: refusal, retries, an offset in words, checksum.
+fn pack(refusal: u8, retries: u8, at: u32, checksum: u32) -> u64
     requires { ⌜ at ≤ 65536 ⌝ }
-    ensures { λ r. ⌜ r ≡ refusal * 2 ^ 56 + retries * 2 ^ 48 + at / 4 * 2 ^ 32 + register ⌝ }
+    ensures { λ r. ⌜ r ≡ refusal * 2 ^ 56 + retries * 2 ^ 48 + at / 4 * 2 ^ 32 + checksum ⌝ }
 {
     let words = (at as u64) / 4;
-    ((refusal as u64) << 56) + ((retries as u64) << 48) + (words << 32) + (register as u64)
+    ((refusal as u64) << 56) + ((retries as u64) << 48) + (words << 32) + (checksum as u64)
 }
 
-// An answer in one number: refusal, retries, offset of the last command in words, register.
+// An answer in one number: refusal, retries, offset of the last command in words, checksum.
 fn report(called: Called) -> u64
     requires { ⌜ called .at ≤ 65536 ⌝ }
     ensures { λ r. ⌜ r ≡ reported called ⌝ }
 {
     let refusal = called.refusal;
     pack(
-        refusal.number(),
+        refusal.code(),
         called.session.retries,
         called.at,
-        called.session.register,
+        called.session.checksum,
     )
 }
 
@@ -50,10 +52,10 @@ fn run_from(opened: Opened, memory: &mut [u8], image: &[u8]) -> Called
 {
     let refusal = opened.refusal;
     let session = opened.session;
-    if refusal.number() == 0 {
+    if refusal.code() == 0 {
         let places = [0usize; 1];
         let mut none = [0u8; 1];
-        return watched::run(session, 0, &places, memory, image, &mut none);
+        return bit_watch::run(session, 0, &places, memory, image, &mut none);
     }
     let wrote = commands::wrote_none();
     Called {
@@ -70,7 +72,7 @@ fn report_fetched(called: Called) -> u64
     ensures { λ r. ⌜ r ≡ fetchedReport called ⌝ }
 {
     let refusal = called.refusal;
-    ((refusal.number() as u64) << 32) + (called.session.fetched as u64)
+    ((refusal.code() as u64) << 32) + (called.session.fetched as u64)
 }
 
 // Opens an image in a dialect on a map and runs it, unchanged, to the end of its session; answered by its report, or by the words fetched.
@@ -195,9 +197,9 @@ pub extern "C" fn ais_bits_session(
 
 // The value of a run that is refused before the first command.
 fn refuse_run(refusal: Refusal) -> u64
-    ensures { λ r. ⌜ r ≡ numberOf refusal * 2 ^ 56 ⌝ }
+    ensures { λ r. ⌜ r ≡ codeOf refusal * 2 ^ 56 ⌝ }
 {
-    (refusal.number() as u64) << 56
+    (refusal.code() as u64) << 56
 }
 
 // A flash run with numbers from its opening and its choice.
@@ -223,13 +225,13 @@ fn bits_from(
         memory.len(),
         windows::sum(windows),
     );
-    if refusal.number() != 0 {
+    if refusal.code() != 0 {
         return refuse_run(refusal);
     }
     feeding::clear(numbers);
     let count = choice.chosen.count;
     let places = choice.chosen.places;
-    report(watched::run(session, count, &places, memory, image, numbers))
+    report(bit_watch::run(session, count, &places, memory, image, numbers))
 }
 
 // One whole flash run in a dialect by number, with the numbers of chosen words beside it.
@@ -264,19 +266,19 @@ pub extern "C" fn ais_bits_run(
 // A text of hexadecimal digits read into an image: 0 or the refusal.
 #[no_mangle]
 pub extern "C" fn ais_hex_read(text: &[u8], image: &mut [u8]) -> u8
-    ensures { λ r. ⌜ r ≡ numberOf (readAnswer (now (text .entry)) (now (image .entry))) ⌝ }
+    ensures { λ r. ⌜ r ≡ codeOf (readAnswer (now (text .entry)) (now (image .entry))) ⌝ }
     ensures { λ _. ⌜ now (image .exit) ≡ readRoom (now (text .entry)) (now (image .entry)) ⌝ }
 {
     let refusal = hex::read(text, image);
-    refusal.number()
+    refusal.code()
 }
 
 // An image written out as text: 0 or the refusal.
 #[no_mangle]
 pub extern "C" fn ais_hex_write(image: &[u8], text: &mut [u8]) -> u8
-    ensures { λ r. ⌜ r ≡ numberOf (writeAnswer (now (image .entry)) (now (text .entry))) ⌝ }
+    ensures { λ r. ⌜ r ≡ codeOf (writeAnswer (now (image .entry)) (now (text .entry))) ⌝ }
     ensures { λ _. ⌜ now (text .exit) ≡ writeRoom (now (image .entry)) (now (text .entry)) ⌝ }
 {
     let refusal = hex::write(image, text);
-    refusal.number()
+    refusal.code()
 }

@@ -3,13 +3,13 @@ ghost use mathlib.Core.Path.{_≡_};
 ghost use Prim.Native.Nat.{_*_, _^_, _≤_};
 ghost use mathlib.Core.List.{_++_};
 ghost use lib.ListN.{length, drop};
-ghost use Rattle.register.specs.Reading.{readingOf};
-ghost use Rattle.register.specs.Refusals.{numberOf};
-ghost use Rattle.bench.specs.Registers.{readValue, nameTold, fiveWritten, commandTold, bitTold, settingTold};
-use register::Found;
-use register::Reading;
-use register::Refusal;
-use register::Setting;
+ghost use Rattle.field_register.specs.rules.Reading.{readingOf};
+ghost use Rattle.field_register.specs.rules.Refusals.{fieldCode};
+ghost use Rattle.bench.specs.rules.Registers.{readValue, nameTold, fiveWritten, commandTold, bitTold, settingTold};
+use field_register::FieldRefusal;
+use field_register::FoundLine;
+use field_register::Reading;
+use field_register::Setting;
 use words::Unit;
 
 // The room that a name needs, and that a command needs.
@@ -18,10 +18,10 @@ const NAME_ROOM: usize = 16;
 const COMMAND_ROOM: usize = 20;
 
 // The value of a refusal that has no line.
-fn refuse(refusal: Refusal) -> u64
-    ensures { λ r. ⌜ r ≡ numberOf refusal * 2 ^ 32 ⌝ }
+fn refuse(refusal: FieldRefusal) -> u64
+    ensures { λ r. ⌜ r ≡ fieldCode refusal * 2 ^ 32 ⌝ }
 {
-    (refusal.number() as u64) << 32
+    (refusal.code() as u64) << 32
 }
 
 // The refusal and its line, or the count of lines.
@@ -30,7 +30,7 @@ fn read_value(reading: Reading) -> u64
     ensures { λ r. ⌜ r ≡ readValue reading ⌝ }
 {
     let refusal = reading.refusal;
-    let number = refusal.number();
+    let number = refusal.code();
     if number == 0 {
         return reading.register.count as u64;
     }
@@ -42,7 +42,7 @@ fn read_value(reading: Reading) -> u64
 pub extern "C" fn ais_register_read(text: &[u8]) -> u64
     ensures { λ r. ⌜ r ≡ readValue (readingOf (now (text .entry))) ⌝ }
 {
-    read_value(register::read(text))
+    read_value(field_register::read(text))
 }
 
 // Copies a name to the front of the room.
@@ -55,13 +55,13 @@ fn put_name(room: &mut [u8], name: [u8; 16])
 }
 
 // Puts the name of a line that was found into the room, and gives its first release.
-fn tell_name(found: Found, room: &mut [u8]) -> u64
+fn tell_name(found: FoundLine, room: &mut [u8]) -> u64
     requires { ⌜ 16 ≤ length (now room) ⌝ }
     ensures { λ r. ⌜ r ≡ nameTold found (now (room .entry)) .value ⌝ }
     ensures { λ _. ⌜ now (room .exit) ≡ nameTold found (now (room .entry)) .room ⌝ }
 {
     if !found.found {
-        return refuse(Refusal::NoField);
+        return refuse(FieldRefusal::NoField);
     }
     let line = found.line;
     let name = line.name;
@@ -82,15 +82,15 @@ pub extern "C" fn ais_register_bit(
     ensures { λ _. ⌜ now (name .exit) ≡ bitTold (now (text .entry)) word bit release (now (name .entry)) .room ⌝ }
 {
     if name.len() < NAME_ROOM {
-        return refuse(Refusal::Room);
+        return refuse(FieldRefusal::Room);
     }
-    let reading = register::read(text);
+    let reading = field_register::read(text);
     let refusal = reading.refusal;
-    if refusal.number() != 0 {
+    if refusal.code() != 0 {
         return read_value(reading);
     }
     let register = reading.register;
-    tell_name(register::field_of(register, word, bit, release), name)
+    tell_name(field_register::field_of(register, word, bit, release), name)
 }
 
 // Writes five words, one after the other.
@@ -110,7 +110,7 @@ fn tell_command(made: Setting, room: &mut [u8]) -> u64
     ensures { λ _. ⌜ now (room .exit) ≡ commandTold made (now (room .entry)) .room ⌝ }
 {
     let refusal = made.refusal;
-    if refusal.number() != 0 {
+    if refusal.code() != 0 {
         return refuse(refusal);
     }
     let words = made.words;
@@ -131,13 +131,16 @@ pub extern "C" fn ais_register_command(
     ensures { λ _. ⌜ now (command .exit) ≡ settingTold (now (text .entry)) (now (name .entry)) release value (now (command .entry)) .room ⌝ }
 {
     if command.len() < COMMAND_ROOM {
-        return refuse(Refusal::Room);
+        return refuse(FieldRefusal::Room);
     }
-    let reading = register::read(text);
+    let reading = field_register::read(text);
     let refusal = reading.refusal;
-    if refusal.number() != 0 {
+    if refusal.code() != 0 {
         return read_value(reading);
     }
     let register = reading.register;
-    tell_command(register::command(register, name, release, value), command)
+    tell_command(
+        field_register::command(register, name, release, value),
+        command,
+    )
 }

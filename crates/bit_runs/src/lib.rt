@@ -2,16 +2,16 @@
 // the number of the command that wrote each bit last, in the other that command's offset in the image.
 ghost use mathlib.Core.Path.{_≡_};
 ghost use lib.ListN.{take};
-ghost use Rattle.flash.specs.Step.{stepOf};
-ghost use Rattle.runs.specs.Run.{runOf};
-ghost use Rattle.watched.specs.Watched.{callEntries, runEntries};
-ghost use Rattle.bit_runs.specs.Runs.{renumbered, callOffsets, runOffsets, checkWindows, notChosen, refusedOpening, ended, openedTraced, openedMemory, openedNumbers, openedOffsets, traced, memoryLeft, numbersLeft, offsetsLeft};
-use chosen::Chosen;
+ghost use Rattle.flash.specs.rules.Step.{stepOf};
+ghost use Rattle.flash_runs.specs.rules.Run.{runOf};
+ghost use Rattle.bit_watch.specs.rules.Watched.{callEntries, runEntries};
+ghost use Rattle.bit_runs.specs.rules.Runs.{renumbered, callOffsets, runOffsets, checkWindows, notChosen, refusedOpening, ended, openedTraced, openedMemory, openedNumbers, openedOffsets, traced, memoryLeft, numbersLeft, offsetsLeft};
+use bit_choice::Chosen;
 use commands::Wrote;
 use flash::Called;
 use flash::Opened;
 use flash::Session;
-use script::Dialect;
+use opcodes::Dialect;
 use windows::Window;
 
 // How the run ended, and the chosen words. Where they are refused nothing is run.
@@ -51,9 +51,9 @@ fn trace_call(
     ensures { λ _. ⌜ now (numbers .exit) ≡ callEntries (take count (now (places .entry))) (now (numbers .entry)) session (now (memory .entry)) (now (image .entry)) ⌝ }
     ensures { λ _. ⌜ now (offsets .exit) ≡ callOffsets (take count (now (places .entry))) (now (offsets .entry)) session (now (memory .entry)) (now (image .entry)) ⌝ }
 {
-    let called = watched::call(session, count, places, memory, image, numbers);
+    let called = bit_watch::call(session, count, places, memory, image, numbers);
     let wrote = called.wrote;
-    stamps::stamp(offsets, count, places, renumber(called.at, wrote));
+    bit_stamps::stamp(offsets, count, places, renumber(called.at, wrote));
     called
 }
 
@@ -79,7 +79,7 @@ fn trace_run(
         if left == 0 {
             return called;
         }
-        if !runs::goes_on(called) {
+        if !flash_runs::goes_on(called) {
             return called;
         }
         live = called.session;
@@ -128,7 +128,7 @@ fn refused_opening(opened: Opened, chosen: Chosen) -> Traced
     Traced {
         chosen: true,
         entered: false,
-        code: refusal.number(),
+        code: refusal.code(),
         at: 0,
         count: chosen.count,
         places,
@@ -140,7 +140,7 @@ fn ended_by(called: Called, chosen: Chosen) -> Traced
     ensures { λ r. ⌜ r ≡ ended called chosen ⌝ }
 {
     let refusal = called.refusal;
-    let code = refusal.number();
+    let code = refusal.code();
     let places = chosen.places;
     Traced {
         chosen: true,
@@ -167,7 +167,7 @@ fn run_opened(
     ensures { λ _. ⌜ now (offsets .exit) ≡ openedOffsets opened chosen (now (memory .entry)) (now (image .entry)) (now (offsets .entry)) ⌝ }
 {
     let refusal = opened.refusal;
-    if refusal.number() != 0 {
+    if refusal.code() != 0 {
         return refused_opening(opened, chosen);
     }
     let session = opened.session;
@@ -198,9 +198,9 @@ pub fn run(
     ensures { λ _. ⌜ now (offsets .exit) ≡ offsetsLeft (now (list .entry)) (now (memory .entry)) (now (image .entry)) (now (offsets .entry)) ⌝ }
 {
     let windows = check_windows();
-    let choice = chosen::choose(windows, list);
+    let choice = bit_choice::choose(windows, list);
     let refusal = choice.refusal;
-    if refusal.number() != 0 {
+    if refusal.code() != 0 {
         return not_chosen();
     }
     let chosen = choice.chosen;

@@ -8,17 +8,17 @@ use lib.Dec.{eqb}
 use lib.ListN.{length}
 use borrow.Author.Tests.{not-false}
 use Rattle.words.proofs.Choice.{chosen, passed, by-test, of-choice}
-use Rattle.script.specs.Answers.{numberOf}
-use Rattle.script.specs.declared.Refusal.{Refusal}
-use Rattle.script.specs.declared.Refusal.the-variants.{Map, Image}
-use Rattle.script.specs.declared.Dialect.the-variants.{Am17xx}
-use Rattle.flash.specs.Opening.{goodLength, refusedBy, openedBy}
+use Rattle.opcodes.specs.rules.Answers.{codeOf}
+use Rattle.opcodes.specs.declared.Refusal.{Refusal}
+use Rattle.opcodes.specs.declared.Refusal.the-variants.{Map, Image}
+use Rattle.opcodes.specs.declared.Dialect.the-variants.{Am17xx}
+use Rattle.flash.specs.rules.Opening.{goodLength, refusedBy, openedBy}
 use Rattle.flash.specs.declared.Called.{Called}
 use Rattle.flash.specs.declared.Opened.{Opened}
-use Rattle.fetches.specs.Ceiling.{ceiling}
-use Rattle.fetches.proofs.Ceiling.{opened-within, ceilings}
-use Rattle.checking.specs.Counting.{mostOf, countedOf, WithinCeiling}
-use Rattle.checking.specs.Report.{windows, lastAnswer}
+use Rattle.flash_runs.specs.claims.Ceiling.{ceiling}
+use Rattle.flash_runs.proofs.Ceiling.{opened-within, ceilings}
+use Rattle.checking.specs.rules.Counting.{mostOf, countedOf, WithinCeiling}
+use Rattle.checking.specs.rules.Report.{windows, lastAnswer}
 
 -- the last answer has fetched no more than the ceiling
 answer-within : (image : List ℕ) (limit : ℕ)
@@ -29,7 +29,7 @@ answer-within image limit =
     (λ e. ceilings .run Am17xx 1 windows image limit _) (λ e. opened-within Am17xx 1 windows image limit)
 
 -- what is refused at the opening before its first word is looked at has fetched none
-refused-none : (image : List ℕ) (q : Refusal) → eqb (numberOf q) 0 ≡ false → lastAnswer image (refusedBy q 0) .session .fetched ≡ 0
+refused-none : (image : List ℕ) (q : Refusal) → eqb (codeOf q) 0 ≡ false → lastAnswer image (refusedBy q 0) .session .fetched ≡ 0
 unfolding lastAnswer
 refused-none image q e = ap (λ (a : Called). a .session .fetched) (passed _ _ _ e)
 

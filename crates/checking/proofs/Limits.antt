@@ -11,7 +11,7 @@ use lib.ListN.{length, getD, drop}
 use lib.Seq.{drop-cons, drop-length}
 use borrow.Author.Tests.{leb-true}
 use Rattle.words.proofs.Choice.{chosen, passed, both}
-use Rattle.checking.specs.Limit.{small, digit, limitFrom, limitOf}
+use Rattle.checking.specs.rules.Limit.{small, digit, limitFrom, limitOf}
 use Rattle.checking.specs.declared.Limit.the-variants.{Wrong}
 
 -- a text that has a character

@@ -1,3 +1,1 @@
-pub mod Counting
-pub mod Limit
-pub mod Report
+pub mod rules

@@ -4,15 +4,15 @@ ghost use mathlib.Core.Bool.{_&&_};
 ghost use mathlib.Core.List.{[]};
 ghost use Prim.Native.Nat.{_+_, _-_, _*_, _≤_};
 ghost use lib.ListN.{length};
-ghost use Rattle.flash.specs.Opening.{openedBy};
-ghost use Rattle.checking.specs.Counting.{mostOf, countedOf};
-ghost use Rattle.checking.specs.Limit.{small, digit, limitFrom, limitOf};
-ghost use Rattle.checking.specs.Report.{windows, opened, reported, lastAnswer, reportOf};
+ghost use Rattle.flash.specs.rules.Opening.{openedBy};
+ghost use Rattle.checking.specs.rules.Counting.{mostOf, countedOf};
+ghost use Rattle.checking.specs.rules.Limit.{small, digit, limitFrom, limitOf};
+ghost use Rattle.checking.specs.rules.Report.{windows, opened, reported, lastAnswer, reportOf};
 use flash::Called;
 use flash::Opened;
 use flash::Session;
-use script::Dialect;
-use script::Event;
+use opcodes::Dialect;
+use opcodes::Event;
 use windows::Window;
 
 pub struct Report {
@@ -42,14 +42,14 @@ fn report_of(called: Called) -> Report
 {
     let refusal = called.refusal;
     let event = called.event;
-    let code = refusal.number();
+    let code = refusal.code();
     if code == 0 {
         return Report {
             entered: true,
             code,
             at: called.at,
             entry: event.value(),
-            crc: called.session.register,
+            crc: called.session.checksum,
             retries: called.session.retries,
         };
     }
@@ -58,7 +58,7 @@ fn report_of(called: Called) -> Report
         code,
         at: called.at,
         entry: 0,
-        crc: called.session.register,
+        crc: called.session.checksum,
         retries: called.session.retries,
     }
 }
@@ -69,9 +69,9 @@ fn answer_to(image: &[u8], opened: Opened) -> Called
 {
     let refusal = opened.refusal;
     let session = opened.session;
-    if refusal.number() == 0 {
+    if refusal.code() == 0 {
         let mut memory = [0u8; 4096];
-        return runs::run(session, &mut memory, image);
+        return flash_runs::run(session, &mut memory, image);
     }
     let wrote = commands::wrote_none();
     Called {
@@ -132,7 +132,7 @@ pub fn count_fetches(image: &[u8], limit: u8) -> Counted
     let called = answer_to(image, open_on(Dialect::Am17xx, image, limit));
     let refusal = called.refusal;
     Counted {
-        code: refusal.number(),
+        code: refusal.code(),
         fetched: called.session.fetched,
         ceiling: ceiling_of(image.len(), limit),
     }

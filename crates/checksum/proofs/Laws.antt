@@ -1,4 +1,4 @@
--- The register stays below 2 ^ 32, since a shift is cut there and the polynomial is below it. Of a value only the bits that are fed count.
+-- The checksum stays below 2 ^ 32, since a shift is cut there and the polynomial is below it. Of a value only the bits that are fed count.
 use Prim.Native.Nat.{ℕ, zero, suc, _%_, _^_, _≤_, _<_}
 use mathlib.Core.Bool.{Bool, true, false}
 use mathlib.Core.List.{List, [], _∷_}
@@ -6,10 +6,10 @@ use mathlib.Core.Path.{_≡_, refl}
 use native.Mathlib.Omega.{arith}
 use lib.Bits.{xor-lt}
 use lib.Dec.{eqb}
-use Rattle.words.specs.Bits.{bit}
-use Rattle.words.specs.Choice.{pick}
+use Rattle.words.specs.rules.Bits.{bit}
+use Rattle.words.specs.rules.Choice.{pick}
 use Rattle.words.proofs.Joins.{bit-low}
-use Rattle.checksum.specs.Checksum.{shifted, fedBit, fed, fedWords}
+use Rattle.checksum.specs.rules.Checksum.{shifted, fedBit, fed, fedWords}
 
 -- what is chosen is below a bound that both sides are below
 pick-lt : {n a b : ℕ} (t : Bool) → a < n → b < n → pick t a b < n

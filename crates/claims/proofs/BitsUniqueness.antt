@@ -2,16 +2,16 @@
 -- of leaves of the memory, the numbers and the offsets.
 use mathlib.Core.Path.{_≡_}
 use denote.Ref.{now}
-use Rattle.bits.proofs.entry.Reads as entry
-use Rattle.bits.proofs.field_at.Reads as field_at
-use Rattle.bits.proofs.part_from.Reads as part_from
-use Rattle.bits.proofs.is_first.Reads as is_first
-use Rattle.bits.proofs.deed_at.Reads as deed_at
-use Rattle.bits.proofs.first_field.Reads as first_field
-use Rattle.bits.proofs.other_field.Reads as other_field
-use Rattle.bits.proofs.reaches_out.Reads as reaches_out
-use Rattle.bits.proofs.two_fields.Reads as two_fields
-use Rattle.bits.proofs.cut_field.Reads as cut_field
+use Rattle.bit_report.proofs.entry.Reads as entry
+use Rattle.bit_report.proofs.field_at.Reads as field_at
+use Rattle.bit_report.proofs.part_from.Reads as part_from
+use Rattle.bit_report.proofs.is_first.Reads as is_first
+use Rattle.bit_report.proofs.deed_at.Reads as deed_at
+use Rattle.bit_report.proofs.first_field.Reads as first_field
+use Rattle.bit_report.proofs.other_field.Reads as other_field
+use Rattle.bit_report.proofs.reaches_out.Reads as reaches_out
+use Rattle.bit_report.proofs.two_fields.Reads as two_fields
+use Rattle.bit_report.proofs.cut_field.Reads as cut_field
 use Rattle.bit_runs.proofs.run.Reads as run
 use Rattle.claims.proofs.Uniqueness.{Coincide, OneResult, same, both-same}
 

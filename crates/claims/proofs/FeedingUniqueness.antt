@@ -1,13 +1,13 @@
 -- Two results that meet one contract coincide, and so do memory, room and numbers at exit, for whole sessions on lent bytes, with numbers and without (`Uniqueness`).
 use mathlib.Core.Path.{_≡_}
 use denote.Ref.{now}
-use Rattle.feeding.proofs.clear.Reads as clear
-use Rattle.feeding.proofs.session_on.Reads as session_on
-use Rattle.feeding.proofs.line_session.Reads as line_session
-use Rattle.feeding.proofs.choose_on.Reads as choose_on
-use Rattle.feeding.proofs.bar.Reads as feeding-bar
-use Rattle.feeding.proofs.dialect_of.Reads as dialect_of
-use Rattle.feeding.proofs.bits_session.Reads as bits_session
+use Rattle.bench.proofs.feeding.clear.Reads as clear
+use Rattle.bench.proofs.feeding.session_on.Reads as session_on
+use Rattle.bench.proofs.feeding.line_session.Reads as line_session
+use Rattle.bench.proofs.feeding.choose_on.Reads as choose_on
+use Rattle.bench.proofs.feeding.bar.Reads as feeding-bar
+use Rattle.bench.proofs.feeding.dialect_of.Reads as dialect_of
+use Rattle.bench.proofs.feeding.bits_session.Reads as bits_session
 use Rattle.bench.proofs.ais_bits_session.Reads as ais_bits_session
 use Rattle.bench.proofs.ais_bits_run.Reads as ais_bits_run
 use Rattle.claims.proofs.Uniqueness.{Coincide, OneResult, OneMemory, same, both-same}

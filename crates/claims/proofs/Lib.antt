@@ -1,7 +1,7 @@
 pub mod BitsUniqueness
 pub mod FeedingUniqueness
 pub mod MarkedExamples
-pub mod TouchingExamples
 pub mod RegisterUniqueness
+pub mod TouchingExamples
 pub mod Uniqueness
 pub mod WatchedUniqueness

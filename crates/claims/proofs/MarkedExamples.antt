@@ -8,17 +8,17 @@ use native.Mathlib.Omega.{arith}
 use lib.Dec.{leb}
 use lib.ListN.{length}
 use borrow.Author.Tests.{le-leb, lt-leb}
-use Rattle.words.specs.Bits.{bit, join, withField}
-use Rattle.words.specs.Bytes.{byte, number, bytesAt, put, fits, fieldFits, fieldWritten}
-use Rattle.words.specs.Choice.{pick}
+use Rattle.words.specs.rules.Bits.{bit, join, withField}
+use Rattle.words.specs.rules.Bytes.{byte, number, bytesAt, put, fits, fieldFits, fieldWritten}
+use Rattle.words.specs.rules.Choice.{pick}
 use Rattle.words.specs.declared.Unit.the-variants.{Four}
 use Rattle.words.proofs.Choice.{chosen, passed}
-use Rattle.checksum.specs.Checksum.{shifted, fedBit, fed, fedWords}
-use Rattle.windows.specs.Window.{hasRight, inside, grantsRange, placeFrom, placeOf}
-use Rattle.commands.specs.Commands.{multiple, rangeJudged, loadJudged, wordsFed, loadFed, unitOf, unitsJudged, fillJudged, filled, fillMemory, memoryIf, fieldShape, shapeOf, tooWide, settingJudged, shapeSet, settingMemory, target, soughtFrom}
+use Rattle.checksum.specs.rules.Checksum.{shifted, fedBit, fed, fedWords}
+use Rattle.windows.specs.rules.Window.{hasRight, inside, grantsRange, placeFrom, placeOf}
+use Rattle.commands.specs.rules.Commands.{multiple, rangeJudged, loadJudged, wordsFed, loadFed, unitOf, unitsJudged, fillJudged, filled, fillMemory, memoryIf, fieldShape, shapeOf, tooWide, settingJudged, shapeSet, settingMemory, target, soughtFrom}
 use Rattle.commands.specs.declared.Judged.{Judged}
 use Rattle.commands.specs.declared.Judged.the-variants.{Granted}
-use Rattle.claims.specs.MarkedExamples.{AllHold, windows, wordThen, marked}
+use Rattle.claims.specs.claims.MarkedExamples.{AllHold, windows, wordThen, marked}
 
 module _ (word value : ℕ) (rest : List ℕ) where
   -- memory has a first word, so a field of it is written

@@ -2,22 +2,22 @@
 use Prim.Native.Nat.{ℕ}
 use mathlib.Core.List.{List}
 use mathlib.Core.Path.{_≡_, refl}
-use Rattle.words.specs.Bits.{join, withField}
-use Rattle.words.specs.Bytes.{byte, number, bytesAt, put, fits, fieldFits, fieldWritten}
-use Rattle.words.specs.Choice.{pick}
-use Rattle.windows.specs.Window.{hasRight, inside, placeFrom, placeOf, sumOf}
-use Rattle.windows.specs.Map.{soundWindow, allSound, rising, goodMap, keptOf}
+use Rattle.words.specs.rules.Bits.{join, withField}
+use Rattle.words.specs.rules.Bytes.{byte, number, bytesAt, put, fits, fieldFits, fieldWritten}
+use Rattle.words.specs.rules.Choice.{pick}
+use Rattle.windows.specs.rules.Window.{hasRight, inside, placeFrom, placeOf, sumOf}
+use Rattle.windows.specs.rules.Map.{soundWindow, allSound, rising, goodMap, keptOf}
 use Rattle.windows.specs.declared.Window.{Window}
 use Rattle.windows.specs.declared.Place.the-variants.{Nowhere}
 use Rattle.windows.specs.declared.Right.{Right}
-use Rattle.commands.specs.Commands.{judgedNumber, multiple, rangeJudged, loadJudged, unitOf, unitsJudged, fillJudged, filled, fillMemory, fieldShape, shapeOf, tooWide, settingMemory, entryJudged}
-use Rattle.claims.specs.MarkedExamples.{AllHold}
-use Rattle.claims.specs.TouchingExamples.{touching}
+use Rattle.commands.specs.rules.Commands.{judgedCode, multiple, rangeJudged, loadJudged, unitOf, unitsJudged, fillJudged, filled, fillMemory, fieldShape, shapeOf, tooWide, settingMemory, entryJudged}
+use Rattle.claims.specs.claims.MarkedExamples.{AllHold}
+use Rattle.claims.specs.claims.TouchingExamples.{touching}
 use Rattle.claims.proofs.MarkedExamples.{_and_}
 
 -- no place is a refusal of 7, on any map
 no-place : (windows : List Window) (right : Right) (address size : ℕ) → placeOf windows right address size ≡ Nowhere
-    → judgedNumber (rangeJudged windows right address size) ≡ 7
+    → judgedCode (rangeJudged windows right address size) ≡ 7
 unfolding rangeJudged
 no-place windows right address size e = rw e refl
 

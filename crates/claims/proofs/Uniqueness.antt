@@ -19,24 +19,24 @@ use Rattle.windows.proofs.locate.Reads as locate
 use Rattle.windows.proofs.sum.Reads as sum
 use Rattle.windows.proofs.kept.Reads as kept
 use Rattle.windows.proofs.is_good.Reads as is_good
-use Rattle.script.proofs.Refusal.number.Reads as number
-use Rattle.script.proofs.Event.kind.Reads as kind
-use Rattle.script.proofs.Event.value.Reads as value
-use Rattle.script.proofs.look_up.Reads as look_up
-use Rattle.totals.proofs.Totals.zero.Reads as totals-zero
-use Rattle.totals.proofs.Totals.anew.Reads as totals-anew
-use Rattle.totals.proofs.Totals.from_one.Reads as totals-from-one
-use Rattle.totals.proofs.Totals.is_spent.Reads as totals-is-spent
-use Rattle.totals.proofs.Totals.number.Reads as totals-number
-use Rattle.totals.proofs.Totals.would_pass.Reads as totals-would-pass
-use Rattle.totals.proofs.Totals.differ.Reads as totals-differ
-use Rattle.totals.proofs.Totals.count.Reads as totals-count
-use Rattle.totals.proofs.Totals.mark.Reads as totals-mark
-use Rattle.totals.proofs.Totals.settle.Reads as totals-settle
-use Rattle.totals.proofs.Totals.ask.Reads as totals-ask
-use Rattle.totals.proofs.Totals.put_back.Reads as totals-put-back
-use Rattle.totals.proofs.Totals.turn.Reads as totals-turn
-use Rattle.totals.proofs.Totals.happen.Reads as totals-happen
+use Rattle.opcodes.proofs.Refusal.code.Reads as number
+use Rattle.opcodes.proofs.Event.kind.Reads as kind
+use Rattle.opcodes.proofs.Event.value.Reads as value
+use Rattle.opcodes.proofs.look_up.Reads as look_up
+use Rattle.ledger.proofs.Totals.zero.Reads as totals-zero
+use Rattle.ledger.proofs.Totals.anew.Reads as totals-anew
+use Rattle.ledger.proofs.Totals.from_one.Reads as totals-from-one
+use Rattle.ledger.proofs.Totals.is_spent.Reads as totals-is-spent
+use Rattle.ledger.proofs.Totals.number.Reads as totals-number
+use Rattle.ledger.proofs.Totals.would_pass.Reads as totals-would-pass
+use Rattle.ledger.proofs.Totals.differ.Reads as totals-differ
+use Rattle.ledger.proofs.Totals.count.Reads as totals-count
+use Rattle.ledger.proofs.Totals.mark.Reads as totals-mark
+use Rattle.ledger.proofs.Totals.settle.Reads as totals-settle
+use Rattle.ledger.proofs.Totals.ask.Reads as totals-ask
+use Rattle.ledger.proofs.Totals.put_back.Reads as totals-put-back
+use Rattle.ledger.proofs.Totals.turn.Reads as totals-turn
+use Rattle.ledger.proofs.Totals.happen.Reads as totals-happen
 use Rattle.commands.proofs.bar.Reads as bar
 use Rattle.commands.proofs.judge_load.Reads as judge_load
 use Rattle.commands.proofs.judge_fill.Reads as judge_fill
@@ -54,7 +54,7 @@ use Rattle.flash.proofs.is_length.Reads as is_length
 use Rattle.flash.proofs.Session.«open».Reads as flash-opening
 use Rattle.flash.proofs.Session.open_numbering.Reads as flash-numbering
 use Rattle.flash.proofs.Session.step.Reads as flash-step
-use Rattle.runs.proofs.run.Reads as run
+use Rattle.flash_runs.proofs.run.Reads as run
 use Rattle.checking.proofs.check.Reads as check
 use Rattle.checking.proofs.count_fetches.Reads as count_fetches
 use Rattle.checking.proofs.limit_of.Reads as limit_of
@@ -73,12 +73,12 @@ use Rattle.sent.proofs.open_numbering.Reads as sent-numbering
 use Rattle.sent.proofs.Session.step.Reads as sent-step
 use Rattle.sent.proofs.Session.step_half.Reads as half-step
 use Rattle.sent.proofs.Session.step_at.Reads as step-at
-use Rattle.sent.proofs.take_word.Reads as take_word
-use Rattle.sent.specs.Line.{Outcome}
+use Rattle.machine.proofs.take_word.Reads as take_word
+use Rattle.sent.specs.rules.Line.{UnitOutcome}
 use Rattle.sent.specs.declared.Session.{Session}
-use Rattle.port.specs.Port.{isGiven}
-use Rattle.maps.proofs.count_of.Reads as count_of
-use Rattle.maps.proofs.windows_of.Reads as windows_of
+use Rattle.port.specs.rules.Port.{isGiven}
+use Rattle.bench.proofs.maps.count_of.Reads as count_of
+use Rattle.bench.proofs.maps.windows_of.Reads as windows_of
 use Rattle.bench.proofs.ais_flash_fetched.Reads as ais_flash_fetched
 use Rattle.hex.proofs.read.Reads as read
 use Rattle.hex.proofs.write.Reads as written
@@ -89,8 +89,8 @@ use Rattle.bench.proofs.ais_half_session.Reads as ais_half_session
 use Rattle.bench.proofs.ais_sent_session.Reads as ais_sent_session
 use Rattle.bench.proofs.ais_hex_read.Reads as ais_hex_read
 use Rattle.bench.proofs.ais_hex_write.Reads as ais_hex_write
-use Rattle.conversions.proofs.to_text.Reads as to_text
-use Rattle.conversions.proofs.to_image.Reads as to_image
+use Rattle.hex.proofs.conversions.to_text.Reads as to_text
+use Rattle.hex.proofs.conversions.to_image.Reads as to_image
 use Rattle.port.specs.declared.Told.{Told}
 
 module _ {K : Type 0} {A R E : K → Type 0} (Post : (κs : K) → A κs → R κs → E κs → Type 0) where
@@ -337,7 +337,7 @@ pub take-word-unique : OneResultAndMemory take_word.Post (λ κs e. now (e .1 .0
 take-word-unique κs a r s e f = both-same
 
 -- port: the routine over a lent session is proved by hand, and its contract is read as it stands in the source
-pub port-feed-unique : (o : Outcome) {s t : Session} {r q : Told} {m n : List ℕ} → isGiven o s r m → isGiven o t q n
+pub port-feed-unique : (o : UnitOutcome) {s t : Session} {r q : Told} {m n : List ℕ} → isGiven o s r m → isGiven o t q n
     → (s ≡ t) × (r ≡ q) × (m ≡ n)
 port-feed-unique o a b = (same (a .0) (b .0), same (a .1) (b .1), same (a .2) (b .2))
 

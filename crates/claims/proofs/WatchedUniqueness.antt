@@ -2,12 +2,12 @@
 -- entries at exit.
 use mathlib.Core.Path.{_≡_}
 use denote.Ref.{now}
-use Rattle.chosen.proofs.choose.Reads as choose
-use Rattle.stamps.proofs.stamp.Reads as stamp
-use Rattle.runs.proofs.goes_on.Reads as goes_on
-use Rattle.watched.proofs.step_at.Reads as step_at
-use Rattle.watched.proofs.call.Reads as call
-use Rattle.watched.proofs.run.Reads as run
+use Rattle.bit_choice.proofs.choose.Reads as choose
+use Rattle.bit_stamps.proofs.stamp.Reads as stamp
+use Rattle.flash_runs.proofs.goes_on.Reads as goes_on
+use Rattle.bit_watch.proofs.step_at.Reads as step_at
+use Rattle.bit_watch.proofs.call.Reads as call
+use Rattle.bit_watch.proofs.run.Reads as run
 use Rattle.claims.proofs.Uniqueness.{Coincide, OneResult, OneMemory, same, both-same}
 
 pub choose-unique : OneResult choose.Post

@@ -1,3 +1,1 @@
-pub mod Leaving
-pub mod MarkedExamples
-pub mod TouchingExamples
+pub mod claims

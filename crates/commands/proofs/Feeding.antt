@@ -5,9 +5,9 @@ use mathlib.Core.Path.{_≡_, ap, ap₂, _∙_}
 use native.Mathlib.Omega.{arith}
 use lib.ListN.{length, take, drop, length-take, length-drop}
 use lib.Seq.{drop-drop}
-use Rattle.words.specs.Bytes.{number}
-use Rattle.checksum.specs.Checksum.{fed}
-use Rattle.commands.specs.Commands.{wordsFed}
+use Rattle.words.specs.rules.Bytes.{number}
+use Rattle.checksum.specs.rules.Checksum.{fed}
+use Rattle.commands.specs.rules.Commands.{wordsFed}
 
 module _ (bytes : List ℕ) (at : ℕ) where
   -- the next word takes four bytes, or those that are left

@@ -10,14 +10,14 @@ use lib.Dec.{lit≤}
 use lib.ListN.{length, getD, take}
 use lib.Pow.{field, mod-mod-pow, shr-shr}
 use lib.Seq.{length-take-le, getD-take}
-use Rattle.words.specs.Bits.{join}
-use Rattle.words.specs.Bytes.{byte, put, sizeOf, written}
+use Rattle.words.specs.rules.Bits.{join}
+use Rattle.words.specs.rules.Bytes.{byte, put, sizeOf, written}
 use Rattle.words.specs.declared.Unit.{Unit as UnitOf}
 use Rattle.words.specs.declared.Unit.the-variants.{Four}
 use Rattle.words.proofs.Joins.{join-low, join-high}
 use Rattle.words.proofs.Puts.{length-put, put-clamped, put-inside, put-same, put-append}
 use Rattle.words.proofs.Units.{write-done}
-use Rattle.commands.specs.Commands.{loaded, filled}
+use Rattle.commands.specs.rules.Commands.{loaded, filled}
 
 -- a remainder by whole bytes keeps the bytes below
 byte-low : (v unit i : ℕ) → i < unit → byte (v % 2 ^ (8 * unit)) i ≡ byte v i

@@ -5,20 +5,20 @@ use mathlib.Core.List.{List}
 use mathlib.Core.Path.{_≡_, refl, ap, ap₂, _∙_}
 use native.Mathlib.Omega.{arith}
 use borrow.Author.Tests.{eq-eqb, ne-eqb}
-use Rattle.words.specs.Bytes.{sizeOf}
-use Rattle.words.specs.Choice.{pick}
+use Rattle.words.specs.rules.Bytes.{sizeOf}
+use Rattle.words.specs.rules.Choice.{pick}
 use Rattle.words.specs.declared.Unit.{Unit as UnitOf}
 use Rattle.words.specs.declared.Unit.the-variants.{One}
 use Rattle.words.proofs.Choice.{chosen, passed, of-choice}
-use Rattle.windows.specs.Window.{placeOf}
+use Rattle.windows.specs.rules.Window.{placeOf}
 use Rattle.windows.specs.declared.Window.{Window}
 use Rattle.windows.specs.declared.Place.{Place}
 use Rattle.windows.specs.declared.Place.the-variants.{At, Nowhere}
 use Rattle.windows.specs.declared.Right.{Right}
 use Rattle.windows.specs.declared.Right.the-variants as right
-use Rattle.script.specs.declared.Refusal.{Refusal}
-use Rattle.script.specs.declared.Refusal.the-variants as refusal
-use Rattle.commands.specs.Commands.{multiple, placed, barred, rangeJudged, loadJudged, unitOf, unitsJudged, typeJudged, fillJudged, shapeOf, tooWide, shapeJudged, settingJudged, entryJudged}
+use Rattle.opcodes.specs.declared.Refusal.{Refusal}
+use Rattle.opcodes.specs.declared.Refusal.the-variants as refusal
+use Rattle.commands.specs.rules.Commands.{multiple, placed, barred, rangeJudged, loadJudged, unitOf, unitsJudged, typeJudged, fillJudged, shapeOf, tooWide, shapeJudged, settingJudged, entryJudged}
 use Rattle.commands.specs.declared.Judged.{Judged}
 use Rattle.commands.specs.declared.Judged.the-variants.{Granted, Refused}
 use Rattle.commands.specs.declared.Shape.{Shape}

@@ -6,9 +6,9 @@ use mathlib.Core.Path.{_≡_, sym, ap, _∙_}
 use native.Mathlib.Omega.{arith}
 use lib.ListN.{length, getD, take, drop, length-append, length-take, length-drop, List·getD-append}
 use lib.Seq.{ext-getD, getD-append-add, getD-drop, getD-take}
-use Rattle.words.specs.Bytes.{bytesAt, put}
+use Rattle.words.specs.rules.Bytes.{bytesAt, put}
 use Rattle.words.proofs.Puts.{length-put, put-inside, put-same, put-append}
-use Rattle.commands.specs.Commands.{loaded}
+use Rattle.commands.specs.rules.Commands.{loaded}
 
 pub loaded-append : (m : List ℕ) (place : ℕ) (xs ys : List ℕ) → loaded (loaded m place xs) (place + length xs) ys ≡ loaded m place (xs ++ ys)
 unfolding loaded

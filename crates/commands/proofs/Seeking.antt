@@ -5,8 +5,8 @@ use mathlib.Core.Path.{_≡_, ap, _∙_}
 use native.Mathlib.Nat.{mod-add-mod}
 use borrow.Author.Tests.{le-leb, lt-leb, lt-ltb, le-ltb, eq-eqb, ne-eqb}
 use Rattle.words.proofs.Choice.{chosen, passed}
-use Rattle.script.specs.declared.Refusal.the-variants as refusal
-use Rattle.commands.specs.Commands.{multiple, target, soughtFrom}
+use Rattle.opcodes.specs.declared.Refusal.the-variants as refusal
+use Rattle.commands.specs.rules.Commands.{multiple, target, soughtFrom}
 use Rattle.commands.specs.declared.Sought.the-variants.{To, Refused}
 
 -- two sums that wrap are one that does

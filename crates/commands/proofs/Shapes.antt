@@ -4,10 +4,10 @@ use mathlib.Core.Bool.{not}
 use mathlib.Core.Path.{_≡_, ap, _∙_}
 use native.Mathlib.Omega.{arith}
 use borrow.Author.Tests.{eq-eqb, ne-eqb}
-use Rattle.words.specs.Bytes.{byte}
+use Rattle.words.specs.rules.Bytes.{byte}
 use Rattle.words.specs.declared.Unit.the-variants.{One, Two, Four}
 use Rattle.words.proofs.Choice.{chosen, passed}
-use Rattle.commands.specs.Commands.{unitOf, typeShape, shapeOf}
+use Rattle.commands.specs.rules.Commands.{unitOf, typeShape, shapeOf}
 use Rattle.commands.specs.declared.Shape.the-variants.{Wrong}
 use Rattle.commands.specs.declared.UnitType.the-variants.{Of, Other}
 

@@ -1,2 +1,1 @@
-pub mod Commands
-pub mod Wrote
+pub mod rules

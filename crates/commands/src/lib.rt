@@ -5,10 +5,10 @@ ghost use mathlib.Core.List.{[], _∷_};
 ghost use Prim.Native.Nat.{ℕ, _+_, _*_, _/_, _%_, _≤_, min};
 ghost use lib.Dec.{leb};
 ghost use lib.ListN.{length};
-ghost use Rattle.words.specs.Bytes.{byte, bytesAt, put, sizeOf};
-ghost use Rattle.words.specs.Choice.{pick};
-ghost use Rattle.checksum.specs.Checksum.{fedWords};
-ghost use Rattle.commands.specs.Commands.{
+ghost use Rattle.words.specs.rules.Bytes.{byte, bytesAt, put, sizeOf};
+ghost use Rattle.words.specs.rules.Choice.{pick};
+ghost use Rattle.checksum.specs.rules.Checksum.{fedWords};
+ghost use Rattle.commands.specs.rules.Commands.{
   rangeJudged,
   doneIf,
   memoryIf,
@@ -38,9 +38,9 @@ ghost use Rattle.commands.specs.Commands.{
   closeDone,
   soughtFrom,
 };
-ghost use Rattle.commands.specs.Wrote.{noneWrote, bytesWrote, shapeWrote, settingWrote};
-use script::Event;
-use script::Refusal;
+ghost use Rattle.commands.specs.rules.Wrote.{noneWrote, bytesWrote, shapeWrote, settingWrote};
+use opcodes::Event;
+use opcodes::Refusal;
 use windows::Place;
 use windows::Right;
 use windows::Window;
@@ -56,7 +56,7 @@ pub enum Judged {
 pub struct Done {
     pub refusal: Refusal,
     pub event: Event,
-    pub register: u32,
+    pub checksum: u32,
 }
 
 // A type that is a unit of 1, 2 or 4 bytes, or another.
@@ -96,19 +96,19 @@ fn judge_range(windows: [Window; 8], right: Right, address: u32, size: u32) -> J
 }
 
 // The answer to a command that was judged: `event` and `fed` count where it is granted.
-fn answer(judged: Judged, register: u32, event: Event, fed: u32) -> Done
-    ensures { λ r. ⌜ r ≡ doneIf judged register event fed ⌝ }
+fn answer(judged: Judged, checksum: u32, event: Event, fed: u32) -> Done
+    ensures { λ r. ⌜ r ≡ doneIf judged checksum event fed ⌝ }
 {
     match judged {
         Judged::Granted(_) => Done {
             refusal: Refusal::None,
             event,
-            register: fed,
+            checksum: fed,
         },
         Judged::Refused(refusal) => Done {
             refusal,
             event: Event::Nothing,
-            register,
+            checksum,
         },
     }
 }
@@ -163,10 +163,10 @@ fn copy(memory: &mut [u8], place: usize, bytes: &[u8])
 }
 
 // What the data of a load feed: a word at a time, of the last only the bytes that are left.
-fn feed_data(register: u32, bytes: &[u8]) -> u32
-    ensures { λ r. ⌜ r ≡ wordsFed register ((length (now (bytes .entry)) + 3) / 4) (now (bytes .entry)) ⌝ }
+fn feed_data(checksum: u32, bytes: &[u8]) -> u32
+    ensures { λ r. ⌜ r ≡ wordsFed checksum ((length (now (bytes .entry)) + 3) / 4) (now (bytes .entry)) ⌝ }
 {
-    let mut reached = register;
+    let mut reached = checksum;
     let mut at: usize = 0;
     while at < bytes.len() {
         let word = words::number_of(&bytes[at..]);
@@ -197,36 +197,36 @@ fn is_inside(place: usize, size: usize, length: usize) -> bool
 }
 
 // What the data of a load feed once they are copied: taken from their place, so that they are taken from where they came only once.
-fn feed_copied(register: u32, memory: &[u8], place: usize, bytes: &[u8]) -> u32
+fn feed_copied(checksum: u32, memory: &[u8], place: usize, bytes: &[u8]) -> u32
     requires { ⌜ (place + length (now bytes) ≤ length (now memory) → bytesAt (now memory) place (length (now bytes)) ≡ now bytes) ⌝ }
-    ensures { λ r. ⌜ r ≡ wordsFed register ((length (now (bytes .entry)) + 3) / 4) (now (bytes .entry)) ⌝ }
+    ensures { λ r. ⌜ r ≡ wordsFed checksum ((length (now (bytes .entry)) + 3) / 4) (now (bytes .entry)) ⌝ }
 {
     if is_inside(place, bytes.len(), memory.len()) {
         let end = place + bytes.len();
-        return feed_data(register, &memory[place..end]);
+        return feed_data(checksum, &memory[place..end]);
     }
-    feed_data(register, bytes)
+    feed_data(checksum, bytes)
 }
 
-// Does a load that was granted: its bytes at their place; the answer is the register.
+// Does a load that was granted: its bytes at their place; the answer is the checksum.
 pub fn load(
     memory: &mut [u8],
     place: usize,
     on: bool,
-    register: u32,
+    checksum: u32,
     address: u32,
     bytes: &[u8],
 ) -> u32
-    ensures { λ r. ⌜ r ≡ pick on (loadFed register address (now (bytes .entry))) register ⌝ }
+    ensures { λ r. ⌜ r ≡ pick on (loadFed checksum address (now (bytes .entry))) checksum ⌝ }
     ensures { λ _. ⌜ now (memory .exit) ≡ loaded (now (memory .entry)) place (now (bytes .entry)) ⌝ }
 {
     copy(memory, place, bytes);
     if on {
         let size = (bytes.len() % 4294967296) as u32;
-        let head = checksum::feed_word(checksum::feed_word(register, address), size);
+        let head = checksum::feed_word(checksum::feed_word(checksum, address), size);
         return feed_copied(head, memory, place, bytes);
     }
-    register
+    checksum
 }
 
 // Types 0, 1, 2 are units of 1, 2, 4 bytes.
@@ -343,14 +343,14 @@ fn fill_range(memory: &mut [u8], judged: Judged, size: u32, kind: UnitType, patt
 }
 
 // What a fill feeds.
-fn feed_fill(on: bool, register: u32, address: u32, size: u32, kind: u32, pattern: u32) -> u32
-    ensures { λ r. ⌜ r ≡ pick on (fedWords register (address ∷ size ∷ kind ∷ pattern ∷ [])) register ⌝ }
+fn feed_fill(on: bool, checksum: u32, address: u32, size: u32, kind: u32, pattern: u32) -> u32
+    ensures { λ r. ⌜ r ≡ pick on (fedWords checksum (address ∷ size ∷ kind ∷ pattern ∷ [])) checksum ⌝ }
 {
     if on {
-        let range = checksum::feed_word(checksum::feed_word(register, address), size);
+        let range = checksum::feed_word(checksum::feed_word(checksum, address), size);
         return checksum::feed_word(checksum::feed_word(range, kind), pattern);
     }
-    register
+    checksum
 }
 
 // Does a fill that was judged.
@@ -358,18 +358,18 @@ pub fn fill(
     memory: &mut [u8],
     judged: Judged,
     on: bool,
-    register: u32,
+    checksum: u32,
     address: u32,
     size: u32,
     kind: u32,
     pattern: u32,
 ) -> Done
-    ensures { λ r. ⌜ r ≡ fillDone judged on register address size kind pattern ⌝ }
+    ensures { λ r. ⌜ r ≡ fillDone judged on checksum address size kind pattern ⌝ }
     ensures { λ _. ⌜ now (memory .exit) ≡ fillMemory judged (now (memory .entry)) size kind pattern ⌝ }
 {
     fill_range(memory, judged, size, unit_of(kind), pattern);
-    let fed = feed_fill(on, register, address, size, kind, pattern);
-    answer(judged, register, Event::Nothing, fed)
+    let fed = feed_fill(on, checksum, address, size, kind, pattern);
+    answer(judged, checksum, Event::Nothing, fed)
 }
 
 // A field of a word, by the START and STOP of a type word.
@@ -467,12 +467,12 @@ fn set_shape(memory: &mut [u8], place: usize, shape: Shape, value: u32)
 pub fn boot_table(
     memory: &mut [u8],
     judged: Judged,
-    register: u32,
+    checksum: u32,
     word: u32,
     value: u32,
     delay: u32,
 ) -> Done
-    ensures { λ r. ⌜ r ≡ settingDone judged register delay ⌝ }
+    ensures { λ r. ⌜ r ≡ settingDone judged checksum delay ⌝ }
     ensures { λ _. ⌜ now (memory .exit) ≡ settingMemory judged (now (memory .entry)) word value ⌝ }
 {
     match judged {
@@ -481,13 +481,13 @@ pub fn boot_table(
             Done {
                 refusal: Refusal::None,
                 event: Event::Wait(delay),
-                register,
+                checksum,
             }
         }
         Judged::Refused(refusal) => Done {
             refusal,
             event: Event::Nothing,
-            register,
+            checksum,
         },
     }
 }
@@ -559,10 +559,10 @@ pub fn judge_entry(windows: [Window; 8], address: u32) -> Judged
 }
 
 // The answer to a Jump & Close that was judged.
-pub fn jump_and_close(judged: Judged, register: u32, address: u32) -> Done
-    ensures { λ r. ⌜ r ≡ closeDone judged register address ⌝ }
+pub fn jump_and_close(judged: Judged, checksum: u32, address: u32) -> Done
+    ensures { λ r. ⌜ r ≡ closeDone judged checksum address ⌝ }
 {
-    answer(judged, register, Event::Enter(address), register)
+    answer(judged, checksum, Event::Enter(address), checksum)
 }
 
 // Where the seek of a flash Request leads: counted from the offset after it, 12 bytes past the opcode.

@@ -9,36 +9,36 @@ use native.Mathlib.Omega.{arith}
 use lib.Dec.{eqb}
 use lib.ListN.{length}
 use borrow.Author.Tests.{leb-true, leb-false, eqb-true, eq-eqb, ne-eqb, not-true, not-false}
-use Rattle.words.specs.Bytes.{wordAt}
-use Rattle.words.specs.Choice.{pick}
+use Rattle.words.specs.rules.Bytes.{wordAt}
+use Rattle.words.specs.rules.Choice.{pick}
 use Rattle.words.proofs.Choice.{chosen, passed, both, of-choice}
-use Rattle.script.specs.Answers.{numberOf, kindOf}
-use Rattle.script.specs.Opcodes.{lookedUp}
-use Rattle.script.specs.declared.Command.{Command}
-use Rattle.script.specs.declared.Command.the-variants as command
-use Rattle.script.specs.declared.Dialect.{Dialect}
-use Rattle.script.specs.declared.Dialect.the-variants.{Am17xx, Dm648}
-use Rattle.script.specs.declared.Event.{Event}
-use Rattle.script.specs.declared.Found.{Found}
-use Rattle.script.specs.declared.Found.the-variants.{Known, Retired, Unknown}
-use Rattle.script.specs.declared.Mode.the-variants.{Flash}
-use Rattle.script.specs.declared.Refusal.{Refusal}
-use Rattle.script.specs.declared.Refusal.the-variants as refusal
-use Rattle.script.proofs.Counts.{rowIs, row-is}
-use Rattle.totals.specs.Totals.{wouldPass, differs, isSpent}
-use Rattle.totals.specs.declared.Happening.{Happening}
-use Rattle.totals.specs.declared.Happening.the-variants as happened
-use Rattle.totals.specs.declared.Totals.{Totals}
-use Rattle.commands.specs.Commands.{judgedNumber}
+use Rattle.opcodes.specs.rules.Answers.{codeOf, kindOf}
+use Rattle.opcodes.specs.rules.Opcodes.{lookedUp}
+use Rattle.opcodes.specs.declared.Command.{Command}
+use Rattle.opcodes.specs.declared.Command.the-variants as command
+use Rattle.opcodes.specs.declared.Dialect.{Dialect}
+use Rattle.opcodes.specs.declared.Dialect.the-variants.{Am17xx, Dm648}
+use Rattle.opcodes.specs.declared.Event.{Event}
+use Rattle.opcodes.specs.declared.Found.{Found}
+use Rattle.opcodes.specs.declared.Found.the-variants.{Known, Retired, Unknown}
+use Rattle.opcodes.specs.declared.Mode.the-variants.{Flash}
+use Rattle.opcodes.specs.declared.Refusal.{Refusal}
+use Rattle.opcodes.specs.declared.Refusal.the-variants as refusal
+use Rattle.opcodes.proofs.Counts.{rowIs, row-is}
+use Rattle.ledger.specs.rules.Totals.{wouldPass, differs, isSpent}
+use Rattle.ledger.specs.declared.Happening.{Happening}
+use Rattle.ledger.specs.declared.Happening.the-variants as happened
+use Rattle.ledger.specs.declared.Totals.{Totals}
+use Rattle.commands.specs.rules.Commands.{judgedCode}
 use Rattle.commands.specs.declared.Done.{Done}
 use Rattle.commands.specs.declared.Judged.{Judged}
 use Rattle.commands.specs.declared.Sought.{Sought}
-use Rattle.commands.specs.Wrote.{noneWrote}
+use Rattle.commands.specs.rules.Wrote.{noneWrote}
 use Rattle.commands.specs.declared.Wrote.{Wrote}
-use Rattle.flash.specs.Calls.{dataWords, happening, Fits, argumentWords, met, Reads, spares, Way, forward, back, kept, Call, EveryCall}
-use Rattle.flash.specs.Opening.{goodLength}
-use Rattle.flash.specs.Sessions.{Outcome, changed, countedOn, fetching, unchanged, stopped, accepted}
-use Rattle.flash.specs.Step.{present, wordsFrom, argument, after, overflowing, outOfNumbers, loadAt, loadJudgedAs, soughtAs, requested, named, closeWords, entered, performed, atRow, stepOf}
+use Rattle.flash.specs.claims.Calls.{dataWords, happening, Fits, argumentWords, met, Reads, spares, Way, forward, back, kept, Call, EveryCall}
+use Rattle.flash.specs.rules.Opening.{goodLength}
+use Rattle.flash.specs.rules.Sessions.{CallOutcome, changed, countedOn, fetching, unchanged, stopped, accepted}
+use Rattle.flash.specs.rules.Step.{present, wordsFrom, argument, after, overflowing, outOfNumbers, loadAt, loadJudgedAs, soughtAs, requested, named, closeWords, entered, performed, atRow, stepOf}
 use Rattle.flash.specs.declared.Called.{Called}
 use Rattle.flash.specs.declared.Session.{Session}
 use Rattle.flash.proofs.Verdicts.{Ending, ends, Judges, grants, denies, load-judges, fill-judges, setting-judges, entry-judges, barred-judges, granted-first, test-failed, fill-number, setting-number, close-number, Answers, accepts, rejects, fill-answers, setting-answers, close-answers, Leads, leads, astray, seek-leads}
@@ -69,8 +69,8 @@ close-count Am17xx n row = let one = eqb-true n 1 row in omega arith
 close-count Dm648 n row = let three = eqb-true n 3 row in omega arith
 
 -- a refusal that ends the session is not 14
-pub not-over : (q : Refusal) → spares q ≡ false → eqb (numberOf q) 14 ≡ false
-not-over q = last (eqb (numberOf q) 2 || eqb (numberOf q) 3) (eqb (numberOf q) 14)
+pub not-over : (q : Refusal) → spares q ≡ false → eqb (codeOf q) 14 ≡ false
+not-over q = last (eqb (codeOf q) 2 || eqb (codeOf q) 3) (eqb (codeOf q) 14)
   where
     last : (a b : Bool) → (a || b) ≡ false → b ≡ false
     last true b e = absurd (true≢false e)
@@ -78,15 +78,15 @@ not-over q = last (eqb (numberOf q) 2 || eqb (numberOf q) 3) (eqb (numberOf q) 1
 
 module _ (s : Session) (image : List ℕ) where
   -- an answer with what a call may change of the session
-  answered : {q : Refusal} {told : Event} {at : ℕ} {over switch : Bool} {register offset retries fetched : ℕ} {totals : Totals} {wrote : Wrote}
-      → Way s image (record { refusal = q; event = told; at = at; session = changed s over switch register offset retries fetched totals; wrote = wrote })
-      → eqb (numberOf q) 14 ≡ s .ended → at ≡ pick (spares q) 0 (s .offset)
-      → Call s image (record { refusal = q; event = told; at = at; session = changed s over switch register offset retries fetched totals; wrote = wrote })
+  answered : {q : Refusal} {told : Event} {at : ℕ} {over switch : Bool} {checksum offset retries fetched : ℕ} {totals : Totals} {wrote : Wrote}
+      → Way s image (record { refusal = q; event = told; at = at; session = changed s over switch checksum offset retries fetched totals; wrote = wrote })
+      → eqb (codeOf q) 14 ≡ s .ended → at ≡ pick (spares q) 0 (s .offset)
+      → Call s image (record { refusal = q; event = told; at = at; session = changed s over switch checksum offset retries fetched totals; wrote = wrote })
   answered way over at =
       record { way = way; same-windows = refl; same-length = refl; same-limit = refl; same-dialect = refl; over = over; at = at }
 
   -- refused, the session spared
-  spared : (q : Refusal) → spares q ≡ true → numberOf q ≢ 0 → eqb (numberOf q) 14 ≡ s .ended → Call s image (unchanged q s)
+  spared : (q : Refusal) → spares q ≡ true → codeOf q ≢ 0 → eqb (codeOf q) 14 ≡ s .ended → Call s image (unchanged q s)
   spared q spare low over =
       answered
       (kept
@@ -118,8 +118,8 @@ module _ (s : Session) (image : List ℕ) where
 
   module _ (standing : s .ended ≡ false) where
     -- refused, the session ended
-    stops : (q : Refusal) {switch : Bool} {register fetched : ℕ} → Ending q → fetched ≡ countedOn (s .fetched) (met s image)
-        → Call s image (stopped q (changed s (s .ended) switch register (s .offset) (s .retries) fetched (s .totals)))
+    stops : (q : Refusal) {switch : Bool} {checksum fetched : ℕ} → Ending q → fetched ≡ countedOn (s .fetched) (met s image)
+        → Call s image (stopped q (changed s (s .ended) switch checksum (s .offset) (s .retries) fetched (s .totals)))
     stops q e all =
         answered
         (kept
@@ -136,10 +136,10 @@ module _ (s : Session) (image : List ℕ) where
         (not-over q (e .unspared) ∙ sym standing) (sym (passed _ _ _ (e .unspared)))
 
     -- accepted, past the words of the command
-    passes : {c : Command} {words : ℕ} {told : Event} {over switch : Bool} {register offset fetched : ℕ} {wrote : Wrote} → Reads s image c words
+    passes : {c : Command} {words : ℕ} {told : Event} {over switch : Bool} {checksum offset fetched : ℕ} {wrote : Wrote} → Reads s image c words
         → offset ≡ s .offset + 4 * words → fetched ≡ countedOn (s .fetched) words → Fits s (what c) → over ≡ eqb (kindOf told) 3
         → (kindOf told ≡ 3 → (c ≡ command.JumpAndClose) × (differs (s .dialect) (s .totals) (named s image) ≡ false))
-        → Call s image (accepted s (what c) wrote told (changed s over switch register offset (s .retries) fetched (s .totals)))
+        → Call s image (accepted s (what c) wrote told (changed s over switch checksum offset (s .retries) fetched (s .totals)))
     passes {c} {words} reads past all fits ended entering =
         answered
         (forward
@@ -160,9 +160,9 @@ module _ (s : Session) (image : List ℕ) where
         (sym standing) (sym (passed _ _ _ refl))
 
     -- accepted with no event of entering, and going on
-    goes-on : {c : Command} {words : ℕ} {told : Event} {switch : Bool} {register offset fetched : ℕ} {wrote : Wrote} → kindOf told ≢ 3
+    goes-on : {c : Command} {words : ℕ} {told : Event} {switch : Bool} {checksum offset fetched : ℕ} {wrote : Wrote} → kindOf told ≢ 3
         → Reads s image c words → offset ≡ s .offset + 4 * words → fetched ≡ countedOn (s .fetched) words → Fits s (what c)
-        → Call s image (accepted s (what c) wrote told (changed s (s .ended) switch register offset (s .retries) fetched (s .totals)))
+        → Call s image (accepted s (what c) wrote told (changed s (s .ended) switch checksum offset (s .retries) fetched (s .totals)))
     goes-on other reads past all fits = passes reads past all fits (standing ∙ sym (ne-eqb _ _ other)) (λ e. absurd (other e))
 
     -- a command whose opcode and argument words were met, and fetched
@@ -171,13 +171,13 @@ module _ (s : Session) (image : List ℕ) where
       fetched = fetching n s
 
       -- refused it has fetched these
-      denied : (q : Refusal) {switch : Bool} {register : ℕ} → Ending q
-          → Call s image (stopped q (changed fetched (s .ended) switch register (s .offset) (s .retries) (fetched .fetched) (s .totals)))
+      denied : (q : Refusal) {switch : Bool} {checksum : ℕ} → Ending q
+          → Call s image (stopped q (changed fetched (s .ended) switch checksum (s .offset) (s .retries) (fetched .fetched) (s .totals)))
       denied q e = stops q e (ap (countedOn (s .fetched)) (sym whole))
 
       -- that was judged
       after-call : {c : Command} {kind : ℕ} {done : Done} (wrote : Wrote) (words : ℕ) → words ≡ n → kind ≢ 3 → Answers kind done
-          → Reads s image c words → (numberOf (done .refusal) ≡ 0 → Fits s (what c)) → Call s image (after fetched (what c) wrote done words)
+          → Reads s image c words → (codeOf (done .refusal) ≡ 0 → Fits s (what c)) → Call s image (after fetched (what c) wrote done words)
       unfolding after
       after-call wrote words all other (accepts e k) reads fits =
           subst (Call s image) (sym (chosen _ _ _ (eq-eqb _ _ e)))
@@ -185,7 +185,7 @@ module _ (s : Session) (image : List ℕ) where
       after-call wrote words all other (rejects e) reads fits = subst (Call s image) (sym (passed _ _ _ (ne-eqb _ _ (e .refused)))) (denied _ e)
 
       entered-call : {done : Done} (words : ℕ) → words ≡ n → Answers 3 done → Reads s image command.JumpAndClose words
-          → (numberOf (done .refusal) ≡ 0 → differs (s .dialect) (s .totals) (named s image) ≡ false)
+          → (codeOf (done .refusal) ≡ 0 → differs (s .dialect) (s .totals) (named s image) ≡ false)
           → Call s image (entered (after fetched happened.Other noneWrote done words))
       unfolding after
       entered-call words all (accepts e k) reads same =
@@ -225,7 +225,7 @@ module _ (s : Session) (image : List ℕ) where
 
     module _ (m : List ℕ) (same : length image ≡ s .length) where
       -- what holds of an outcome holds of its answer
-      abbrev Answered : Outcome → Type 0
+      abbrev Answered : CallOutcome → Type 0
       Answered o = Call s image (o .answer)
 
       -- a row that is found, its command's argument words there
@@ -240,7 +240,7 @@ module _ (s : Session) (image : List ℕ) where
 
       load-call : {arguments : ℕ} {j : Judged} → lookedUp (wordAt image (s .offset)) Flash (s .dialect) ≡ Known command.Load arguments
           → s .offset + 4 + 4 * arguments ≤ length image → arguments ≡ 2 → Judges j
-          → (judgedNumber j ≡ 0 → wouldPass (s .dialect) (s .totals) (argument s image 1) ≡ false)
+          → (judgedCode j ≡ 0 → wouldPass (s .dialect) (s .totals) (argument s image 1) ≡ false)
           → Answered
           (loadJudgedAs (fetching (1 + arguments) s) m image (argument (fetching (1 + arguments) s) image 0)
           (argument (fetching (1 + arguments) s) image 1) j)
@@ -261,7 +261,7 @@ module _ (s : Session) (image : List ℕ) where
       numbered-judges judges = barred-judges _ (ends refusal.Number refl) judges
 
       -- what 25 did not refuse was granted before it, and found a number
-      numbered-passed : {j : Judged} → Judges j → judgedNumber (outOfNumbers s j) ≡ 0 → (judgedNumber j ≡ 0) × (isSpent (s .totals) ≡ false)
+      numbered-passed : {j : Judged} → Judges j → judgedCode (outOfNumbers s j) ≡ 0 → (judgedCode j ≡ 0) × (isSpent (s .totals) ≡ false)
       numbered-passed judges e = (granted-first _ (ends refusal.Number refl) judges e, test-failed _ (ends refusal.Number refl) judges e)
 
       -- each command whose argument words are there
@@ -320,7 +320,7 @@ module _ (s : Session) (image : List ℕ) where
 pub every-call : EveryCall
 unfolding stepOf
 every-call s m image =
-    let Answered : Outcome → Type 0 = λ o. Call s image (o .answer) in
+    let Answered : CallOutcome → Type 0 = λ o. Call s image (o .answer) in
     of-choice Answered _ (λ over. spared s image refusal.Ended refl (λ z. omega arith) (sym over))
     (λ standing. of-choice Answered _ (λ e. spared s image refusal.Memory refl (λ z. omega arith) (sym standing))
     (λ e. of-choice Answered _ (λ e. spared s image refusal.Image refl (λ z. omega arith) (sym standing))

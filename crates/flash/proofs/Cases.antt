@@ -6,22 +6,22 @@ use mathlib.Core.Path.{_≡_, ap, _∙_}
 use lib.Dec.{eqb, leb}
 use lib.ListN.{length}
 use borrow.Author.Tests.{le-leb, lt-leb, eq-eqb, ne-eqb, leb-true, eqb-true}
-use Rattle.words.specs.Bytes.{wordAt}
+use Rattle.words.specs.rules.Bytes.{wordAt}
 use Rattle.words.proofs.Choice.{chosen, passed, both}
-use Rattle.windows.specs.Window.{sumOf}
-use Rattle.script.specs.Opcodes.{lookedUp}
-use Rattle.script.specs.declared.Command.{Command}
-use Rattle.script.specs.declared.Command.the-variants as command
-use Rattle.script.specs.declared.Found.{Found}
-use Rattle.script.specs.declared.Found.the-variants.{Known}
-use Rattle.script.specs.declared.Mode.the-variants.{Flash}
-use Rattle.script.specs.declared.Refusal.the-variants as refusal
-use Rattle.totals.specs.Totals.{isSpent}
-use Rattle.commands.specs.Commands.{multiple, loadJudged, fillJudged, settingJudged}
+use Rattle.windows.specs.rules.Window.{sumOf}
+use Rattle.opcodes.specs.rules.Opcodes.{lookedUp}
+use Rattle.opcodes.specs.declared.Command.{Command}
+use Rattle.opcodes.specs.declared.Command.the-variants as command
+use Rattle.opcodes.specs.declared.Found.{Found}
+use Rattle.opcodes.specs.declared.Found.the-variants.{Known}
+use Rattle.opcodes.specs.declared.Mode.the-variants.{Flash}
+use Rattle.opcodes.specs.declared.Refusal.the-variants as refusal
+use Rattle.ledger.specs.rules.Totals.{isSpent}
+use Rattle.commands.specs.rules.Commands.{multiple, loadJudged, fillJudged, settingJudged}
 use Rattle.commands.specs.declared.Judged.{Judged}
-use Rattle.flash.specs.Opening.{goodLength}
-use Rattle.flash.specs.Sessions.{_leaving_, fetching, unchanged, stopped}
-use Rattle.flash.specs.Step.{present, wordsFrom, argument, overflowing, outOfNumbers, loadDone, loadAt, loadJudgedAs, fillJudgedAs, settingJudgedAs, performed, atRow, stepOf}
+use Rattle.flash.specs.rules.Opening.{goodLength}
+use Rattle.flash.specs.rules.Sessions.{_leaving_, fetching, unchanged, stopped}
+use Rattle.flash.specs.rules.Step.{present, wordsFrom, argument, overflowing, outOfNumbers, loadDone, loadAt, loadJudgedAs, fillJudgedAs, settingJudgedAs, performed, atRow, stepOf}
 use Rattle.flash.specs.declared.Session.{Session}
 
 -- words that are there, and words that are not

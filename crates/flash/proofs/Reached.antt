@@ -6,16 +6,16 @@ use mathlib.Core.Path.{_≡_, refl}
 use native.Mathlib.Omega.{arith}
 use lib.Dec.{eqb}
 use lib.ListN.{length}
-use Rattle.words.specs.Choice.{pick}
+use Rattle.words.specs.rules.Choice.{pick}
 use Rattle.words.proofs.Choice.{both, of-choice}
-use Rattle.windows.specs.Window.{sumOf}
+use Rattle.windows.specs.rules.Window.{sumOf}
 use Rattle.windows.specs.declared.Window.{Window}
-use Rattle.script.specs.declared.Dialect.{Dialect}
-use Rattle.commands.specs.Commands.{multiple}
-use Rattle.flash.specs.Calls.{Way, forward, back, kept, Call}
-use Rattle.flash.specs.Opening.{goodLength, openedBy}
-use Rattle.flash.specs.Reached.{Reached, opened, called, Looks, at-opcode, at-argument, at-data, NoWordCut, ReachedIsNeeded}
-use Rattle.flash.specs.Step.{present, stepOf}
+use Rattle.opcodes.specs.declared.Dialect.{Dialect}
+use Rattle.commands.specs.rules.Commands.{multiple}
+use Rattle.flash.specs.claims.Calls.{Way, forward, back, kept, Call}
+use Rattle.flash.specs.rules.Opening.{goodLength, openedBy}
+use Rattle.flash.specs.claims.Reached.{Reached, opened, called, Looks, at-opcode, at-argument, at-data, NoWordCut, ReachedIsNeeded}
+use Rattle.flash.specs.rules.Step.{present, stepOf}
 use Rattle.flash.specs.declared.Called.{Called}
 use Rattle.flash.specs.declared.Opened.{Opened}
 use Rattle.flash.specs.declared.Session.{Session}

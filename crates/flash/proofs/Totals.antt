@@ -7,39 +7,39 @@ use mathlib.Core.Path.{_≡_, refl, sym, ap, ap₂, subst, _∙_}
 use native.Mathlib.Omega.{arith}
 use lib.ListN.{length}
 use borrow.Author.Tests.{eq-eqb, ne-eqb}
-use Rattle.words.specs.Bytes.{wordAt}
-use Rattle.words.specs.Choice.{pick}
+use Rattle.words.specs.rules.Bytes.{wordAt}
+use Rattle.words.specs.rules.Choice.{pick}
 use Rattle.words.proofs.Choice.{chosen, passed, of-choice}
 use Rattle.windows.specs.declared.Window.{Window}
-use Rattle.script.specs.Answers.{numberOf, kindOf}
-use Rattle.script.specs.Opcodes.{lookedUp}
-use Rattle.script.specs.declared.Command.{Command}
-use Rattle.script.specs.declared.Command.the-variants as command
-use Rattle.script.specs.declared.Dialect.{Dialect}
-use Rattle.script.specs.declared.Dialect.the-variants.{Am17xx, Dm648}
-use Rattle.script.specs.declared.Found.{Found}
-use Rattle.script.specs.declared.Found.the-variants.{Known, Retired, Unknown}
-use Rattle.script.specs.declared.Mode.the-variants.{Flash}
-use Rattle.totals.specs.Agreement.{plus}
-use Rattle.totals.specs.Totals.{atOpening, wouldPass, differs, following, numberedAs, inFlash}
-use Rattle.totals.specs.declared.Happening.{Happening}
-use Rattle.totals.specs.declared.Happening.the-variants as happened
-use Rattle.totals.specs.declared.Standing.{Standing}
-use Rattle.totals.specs.declared.Totals.{Totals}
-use Rattle.totals.proofs.Laws.{names-them, plus-none, plus-more, plus-one}
-use Rattle.commands.specs.Commands.{loadJudged, soughtFrom}
+use Rattle.opcodes.specs.rules.Answers.{codeOf, kindOf}
+use Rattle.opcodes.specs.rules.Opcodes.{lookedUp}
+use Rattle.opcodes.specs.declared.Command.{Command}
+use Rattle.opcodes.specs.declared.Command.the-variants as command
+use Rattle.opcodes.specs.declared.Dialect.{Dialect}
+use Rattle.opcodes.specs.declared.Dialect.the-variants.{Am17xx, Dm648}
+use Rattle.opcodes.specs.declared.Found.{Found}
+use Rattle.opcodes.specs.declared.Found.the-variants.{Known, Retired, Unknown}
+use Rattle.opcodes.specs.declared.Mode.the-variants.{Flash}
+use Rattle.ledger.specs.claims.Agreement.{plus}
+use Rattle.ledger.specs.rules.Totals.{atOpening, wouldPass, differs, following, numberedAs, inFlash}
+use Rattle.ledger.specs.declared.Happening.{Happening}
+use Rattle.ledger.specs.declared.Happening.the-variants as happened
+use Rattle.ledger.specs.declared.Standing.{Standing}
+use Rattle.ledger.specs.declared.Totals.{Totals}
+use Rattle.ledger.proofs.Laws.{names-them, plus-none, plus-more, plus-one}
+use Rattle.commands.specs.rules.Commands.{loadJudged, soughtFrom}
 use Rattle.commands.specs.declared.Done.{Done}
 use Rattle.commands.specs.declared.Judged.{Judged}
 use Rattle.commands.specs.declared.Judged.the-variants.{Granted, Refused}
 use Rattle.commands.specs.declared.Sought.{Sought}
 use Rattle.commands.specs.declared.Sought.the-variants as sought
 use Rattle.commands.specs.declared.Wrote.{Wrote}
-use Rattle.flash.specs.Calls.{happening, Fits, Way, forward, back, kept, Call}
-use Rattle.flash.specs.Opening.{openedBy}
-use Rattle.flash.specs.Reached.{Reached, opened, called}
-use Rattle.flash.specs.Sessions.{Outcome, goTo, withTotals, fetching, accepted}
-use Rattle.flash.specs.Step.{argument, after, overflowing, loadAt, loadJudgedAs, soughtAs, requested, named, entered, performed, atRow, stepOf}
-use Rattle.flash.specs.Totals.{Lent, answerTo, afterCalls, sizesIn, sizesFound, acceptedIn, sizesAccepted, CountsAccepted, EntersOnTotals, untold, Am17xxHasNone}
+use Rattle.flash.specs.claims.Calls.{happening, Fits, Way, forward, back, kept, Call}
+use Rattle.flash.specs.rules.Opening.{openedBy}
+use Rattle.flash.specs.claims.Reached.{Reached, opened, called}
+use Rattle.flash.specs.rules.Sessions.{CallOutcome, goTo, withTotals, fetching, accepted}
+use Rattle.flash.specs.rules.Step.{argument, after, overflowing, loadAt, loadJudgedAs, soughtAs, requested, named, entered, performed, atRow, stepOf}
+use Rattle.flash.specs.claims.Totals.{Lent, answerTo, afterCalls, sizesIn, sizesFound, acceptedIn, sizesAccepted, CountsAccepted, EntersOnTotals, untold, Am17xxHasNone}
 use Rattle.flash.specs.declared.Called.{Called}
 use Rattle.flash.specs.declared.Opened.{Opened}
 use Rattle.flash.specs.declared.Session.{Session}
@@ -93,7 +93,7 @@ module _ (s : Session) (lent : Lent) where
           ap (λ (t : Totals). t .now) (f .totals)
           ∙ command-stands s size dialect (f .command) (f .fits)
           ∙ ap (plus (s .totals .now))
-          (sym (chosen _ _ _ (eq-eqb _ _ (ap numberOf (f .accepted))) ∙ ap (λ (found : Found). sizesFound found size) (f .reads .row)))
+          (sym (chosen _ _ _ (eq-eqb _ _ (ap codeOf (f .accepted))) ∙ ap (λ (found : Found). sizesFound found size) (f .reads .row)))
       go (back b) = absurd (omega (arith, b .counted))
       go (kept k) =
           ap (λ (t : Totals). t .now) (k .totals) ∙ plus-none (s .totals .now)
@@ -170,7 +170,7 @@ inDialect s dialect =
       windows = s .windows;
       ended = s .ended;
       on = s .on;
-      register = s .register;
+      checksum = s .checksum;
       offset = s .offset;
       length = s .length;
       limit = s .limit;
@@ -188,11 +188,11 @@ withNone s t = inDialect (withTotals s t) Am17xx
 record AnswerAlike (a b : Called) : Type 0 where
   told : untold a ≡ untold b
 
-record Alike (o p : Outcome) : Type 0 where
+record Alike (o p : CallOutcome) : Type 0 where
   answer : AnswerAlike (o .answer) (p .answer)
   memory : o .memory ≡ p .memory
 
-alike-choice : (test : Bool) {o p q r : Outcome} → Alike o p → Alike q r → Alike (pick test o q) (pick test p r)
+alike-choice : (test : Bool) {o p q r : CallOutcome} → Alike o p → Alike q r → Alike (pick test o q) (pick test p r)
 unfolding pick
 alike-choice true first second = first
 alike-choice false first second = second
@@ -226,7 +226,7 @@ module _ (m image : List ℕ) (first second numbers : Totals) where
     unfolding after
     after-alike h wrote done n =
         answer-choice _
-        (record { told = ap (λ (v : Totals). untold (accepted (withNone s v) happened.Other wrote (done .event) (goTo (withNone s v) (done .register) (s .offset + 4 * n)))) (happens-alike h) })
+        (record { told = ap (λ (v : Totals). untold (accepted (withNone s v) happened.Other wrote (done .event) (goTo (withNone s v) (done .checksum) (s .offset + 4 * n)))) (happens-alike h) })
         (record { told = refl })
 
     load-alike : (address size : ℕ) (judged : Judged)

@@ -7,32 +7,32 @@ use mathlib.Core.Path.{_≡_, refl}
 use native.Mathlib.Omega.{arith}
 use lib.Dec.{ltb, eqb}
 use borrow.Author.Tests.{ltb-true, leb-true, eqb-true, not-true}
-use Rattle.words.specs.Choice.{pick}
+use Rattle.words.specs.rules.Choice.{pick}
 use Rattle.words.proofs.Choice.{both, of-choice}
 use Rattle.windows.specs.declared.Window.{Window}
-use Rattle.script.specs.Answers.{numberOf, kindOf}
-use Rattle.script.specs.declared.Event.{Event}
-use Rattle.script.specs.declared.Event.the-variants as event
-use Rattle.script.specs.declared.Refusal.{Refusal}
-use Rattle.script.specs.declared.Refusal.the-variants as refusal
-use Rattle.commands.specs.Commands.{judgedNumber, multiple, doneIf, barred, loadJudged, fillJudged, fillDone, settingJudged, settingDone, entryJudged, closeDone, target, soughtFrom}
+use Rattle.opcodes.specs.rules.Answers.{codeOf, kindOf}
+use Rattle.opcodes.specs.declared.Event.{Event}
+use Rattle.opcodes.specs.declared.Event.the-variants as event
+use Rattle.opcodes.specs.declared.Refusal.{Refusal}
+use Rattle.opcodes.specs.declared.Refusal.the-variants as refusal
+use Rattle.commands.specs.rules.Commands.{judgedCode, multiple, doneIf, barred, loadJudged, fillJudged, fillDone, settingJudged, settingDone, entryJudged, closeDone, target, soughtFrom}
 use Rattle.commands.proofs.Judging.{EachRefusal, Passes, load-passes, fill-passes, setting-passes, entry-passes}
 use Rattle.commands.specs.declared.Done.{Done}
 use Rattle.commands.specs.declared.Judged.{Judged}
 use Rattle.commands.specs.declared.Judged.the-variants.{Granted, Refused}
 use Rattle.commands.specs.declared.Sought.{Sought}
 use Rattle.commands.specs.declared.Sought.the-variants as sought
-use Rattle.flash.specs.Calls.{spares}
+use Rattle.flash.specs.claims.Calls.{spares}
 
 -- a refusal that ends the session
 pub record Ending (q : Refusal) : Type 0 where
-  pub refused : numberOf q ≢ 0
+  pub refused : codeOf q ≢ 0
   pub unspared : spares q ≡ false
 
-pub ends : (q : Refusal) → (ltb 0 (numberOf q) && not (spares q)) ≡ true → Ending q
+pub ends : (q : Refusal) → (ltb 0 (codeOf q) && not (spares q)) ≡ true → Ending q
 ends q e =
-    let parts = both (ltb 0 (numberOf q)) (not (spares q)) e in
-    let low = ltb-true 0 (numberOf q) (parts .0) in
+    let parts = both (ltb 0 (codeOf q)) (not (spares q)) e in
+    let low = ltb-true 0 (codeOf q) (parts .0) in
     record { refused = λ z. omega arith; unspared = not-true (spares q) (parts .1) }
 
 -- a judgement grants a place or refuses with such a number
@@ -73,54 +73,54 @@ barred-judges test ending grants = of-choice Judges test (λ e. denies ending) (
 barred-judges test ending (denies e) = denies e
 
 -- what is granted then did not pass its test
-pub test-failed : (test : Bool) {q : Refusal} {j : Judged} → Ending q → Judges j → judgedNumber (barred test q j) ≡ 0 → test ≡ false
+pub test-failed : (test : Bool) {q : Refusal} {j : Judged} → Ending q → Judges j → judgedCode (barred test q j) ≡ 0 → test ≡ false
 unfolding pick
 test-failed true ending grants e = absurd (ending .refused e)
 test-failed false ending grants e = refl
 test-failed test ending (denies wrong) e = absurd (wrong .refused e)
 
 -- and was granted before it
-pub granted-first : (test : Bool) {q : Refusal} {j : Judged} → Ending q → Judges j → judgedNumber (barred test q j) ≡ 0 → judgedNumber j ≡ 0
+pub granted-first : (test : Bool) {q : Refusal} {j : Judged} → Ending q → Judges j → judgedCode (barred test q j) ≡ 0 → judgedCode j ≡ 0
 granted-first test ending grants e = refl
 granted-first test ending (denies wrong) e = e
 
 -- the number of an answer is the judgement's
-done-number : (j : Judged) (register fed : ℕ) (told : Event) → numberOf (doneIf j register told fed .refusal) ≡ judgedNumber j
-done-number (Granted place) register fed told = refl
-done-number (Refused q) register fed told = refl
+done-number : (j : Judged) (checksum fed : ℕ) (told : Event) → codeOf (doneIf j checksum told fed .refusal) ≡ judgedCode j
+done-number (Granted place) checksum fed told = refl
+done-number (Refused q) checksum fed told = refl
 
-pub fill-number : (j : Judged) (on : Bool) (register address size kind pattern : ℕ)
-    → numberOf (fillDone j on register address size kind pattern .refusal) ≡ judgedNumber j
+pub fill-number : (j : Judged) (on : Bool) (checksum address size kind pattern : ℕ)
+    → codeOf (fillDone j on checksum address size kind pattern .refusal) ≡ judgedCode j
 unfolding fillDone
-fill-number j on register address size kind pattern = done-number j _ _ _
+fill-number j on checksum address size kind pattern = done-number j _ _ _
 
-pub setting-number : (j : Judged) (register delay : ℕ) → numberOf (settingDone j register delay .refusal) ≡ judgedNumber j
+pub setting-number : (j : Judged) (checksum delay : ℕ) → codeOf (settingDone j checksum delay .refusal) ≡ judgedCode j
 unfolding settingDone
-setting-number j register delay = done-number j _ _ _
+setting-number j checksum delay = done-number j _ _ _
 
-pub close-number : (j : Judged) (register address : ℕ) → numberOf (closeDone j register address .refusal) ≡ judgedNumber j
+pub close-number : (j : Judged) (checksum address : ℕ) → codeOf (closeDone j checksum address .refusal) ≡ judgedCode j
 unfolding closeDone
-close-number j register address = done-number j _ _ _
+close-number j checksum address = done-number j _ _ _
 
 -- a command that was judged is accepted with an event of a kind, or refused with such a number
 pub data Answers (kind : ℕ) (done : Done) : Type 0 where
-  accepts : numberOf (done .refusal) ≡ 0 → kindOf (done .event) ≡ kind → Answers kind done
+  accepts : codeOf (done .refusal) ≡ 0 → kindOf (done .event) ≡ kind → Answers kind done
   rejects : Ending (done .refusal) → Answers kind done
 
-judged-answers : {j : Judged} (register fed : ℕ) (told : Event) → Judges j → Answers (kindOf told) (doneIf j register told fed)
-judged-answers register fed told grants = accepts refl refl
-judged-answers register fed told (denies e) = rejects e
+judged-answers : {j : Judged} (checksum fed : ℕ) (told : Event) → Judges j → Answers (kindOf told) (doneIf j checksum told fed)
+judged-answers checksum fed told grants = accepts refl refl
+judged-answers checksum fed told (denies e) = rejects e
 
-module _ {judged : Judged} (judges : Judges judged) (register : ℕ) where
-  pub fill-answers : (on : Bool) (address size kind pattern : ℕ) → Answers 0 (fillDone judged on register address size kind pattern)
+module _ {judged : Judged} (judges : Judges judged) (checksum : ℕ) where
+  pub fill-answers : (on : Bool) (address size kind pattern : ℕ) → Answers 0 (fillDone judged on checksum address size kind pattern)
   unfolding fillDone
   fill-answers on address size kind pattern = judged-answers _ _ event.Nothing judges
 
-  pub setting-answers : (delay : ℕ) → Answers 1 (settingDone judged register delay)
+  pub setting-answers : (delay : ℕ) → Answers 1 (settingDone judged checksum delay)
   unfolding settingDone
   setting-answers delay = judged-answers _ _ (event.Wait delay) judges
 
-  pub close-answers : (address : ℕ) → Answers 3 (closeDone judged register address)
+  pub close-answers : (address : ℕ) → Answers 3 (closeDone judged checksum address)
   unfolding closeDone
   close-answers address = judged-answers _ _ (event.Enter address) judges
 

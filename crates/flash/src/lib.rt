@@ -4,33 +4,33 @@ ghost use mathlib.Core.Path.{_≡_};
 ghost use Prim.Native.Nat.{_+_, _*_, _^_, _≤_, _<_};
 ghost use lib.Dec.{eqb};
 ghost use lib.ListN.{length};
-ghost use Rattle.commands.specs.Commands.{soughtFrom};
-ghost use Rattle.commands.specs.Wrote.{noneWrote};
-ghost use Rattle.flash.specs.Opening.{goodLength, begun, refusedBy, openedBy, numberingFrom};
-ghost use Rattle.flash.specs.Sessions.{goTo, switchOn, switchOff, countedOn, fetching, unchanged, stopped, accepted};
-ghost use Rattle.flash.specs.Step.{argument, after, overflowing, outOfNumbers, loadAnswer, loadAt, soughtAs, requested, named, closeWords, closed, performed, atRow, stepOf};
+ghost use Rattle.commands.specs.rules.Commands.{soughtFrom};
+ghost use Rattle.commands.specs.rules.Wrote.{noneWrote};
+ghost use Rattle.flash.specs.rules.Opening.{goodLength, begun, refusedBy, openedBy, numberingFrom};
+ghost use Rattle.flash.specs.rules.Sessions.{goTo, switchOn, switchOff, countedOn, fetching, unchanged, stopped, accepted};
+ghost use Rattle.flash.specs.rules.Step.{argument, after, overflowing, outOfNumbers, loadAnswer, loadAt, soughtAs, requested, named, closeWords, closed, performed, atRow, stepOf};
 use commands::Done;
 use commands::Judged;
 use commands::Sought;
 use commands::Wrote;
-use script::Command;
-use script::Dialect;
-use script::Event;
-use script::Found;
-use script::Mode;
-use script::Refusal;
-use totals::Bytes;
-use totals::Happening;
-use totals::Sections;
-use totals::Standing;
-use totals::Totals;
+use ledger::Bytes;
+use ledger::Happening;
+use ledger::Sections;
+use ledger::Standing;
+use ledger::Totals;
+use opcodes::Command;
+use opcodes::Dialect;
+use opcodes::Event;
+use opcodes::Found;
+use opcodes::Mode;
+use opcodes::Refusal;
 use windows::Window;
 
 // A standing flash session. The windows past the map's count are all zero; `fetched` counts the words fetched since the opening, `totals` what a DM648 has
 // loaded.
 pub struct Session {
     pub windows: [Window; 8],
-    pub register: u32,
+    pub checksum: u32,
     pub offset: u32,
     pub length: u32,
     pub fetched: u32,
@@ -124,7 +124,7 @@ impl Session {
             return halt(Refusal::Missing, self);
         }
         let dialect = self.dialect;
-        let found = script::look_up(words::word_at(image, at), Mode::Flash, dialect);
+        let found = opcodes::look_up(words::word_at(image, at), Mode::Flash, dialect);
         at_row(found, self, memory, image)
     }
 }
@@ -138,7 +138,7 @@ fn anew(session: Session) -> Session
     let dialect = session.dialect;
     Session {
         windows,
-        register: session.register,
+        checksum: session.checksum,
         offset: session.offset,
         length: session.length,
         fetched: session.fetched,
@@ -156,7 +156,7 @@ fn number_from(opened: Opened) -> Opened
     ensures { λ r. ⌜ r ≡ numberingFrom opened ⌝ }
 {
     let refusal = opened.refusal;
-    if refusal.number() == 0 {
+    if refusal.code() == 0 {
         let session = opened.session;
         let totals = session.totals;
         let first = totals.from_one();
@@ -180,7 +180,7 @@ fn begin(dialect: Dialect, windows: [Window; 8], length: u32, limit: u8) -> Open
             windows,
             ended: false,
             on: false,
-            register: 0,
+            checksum: 0,
             offset: Session::FIRST,
             length,
             limit,
@@ -230,7 +230,7 @@ fn shut(refusal: Refusal, fetched: u32) -> Opened
             windows: [none; 8],
             ended: true,
             on: false,
-            register: 0,
+            checksum: 0,
             offset: 0,
             length: 0,
             limit: 0,
@@ -296,12 +296,12 @@ fn proceed(
     }
 }
 
-// The session with another register, going on at another offset.
-fn moved(session: Session, register: u32, offset: u32) -> Session
-    ensures { λ r. ⌜ r ≡ goTo session register offset ⌝ }
+// The session with another checksum, going on at another offset.
+fn moved(session: Session, checksum: u32, offset: u32) -> Session
+    ensures { λ r. ⌜ r ≡ goTo session checksum offset ⌝ }
 {
     let mut next = session;
-    next.register = register;
+    next.checksum = checksum;
     next.offset = offset;
     next
 }
@@ -368,24 +368,24 @@ fn finish(session: Session, happening: Happening, wrote: Wrote, done: Done, word
     let refusal = done.refusal;
     let told = done.event;
     let event = event_anew(told);
-    if refusal.number() == 0 {
+    if refusal.code() == 0 {
         let offset = session.offset + 4 * words;
-        let next = moved(session, done.register, offset);
+        let next = moved(session, done.checksum, offset);
         return proceed(session, happening, wrote, event, next);
     }
     halt(refusal, session)
 }
 
-// The answer to a load that is accepted at a place, with the register that its data leave.
-fn load_answer(session: Session, register: u32, size: u32, place: usize) -> Called
+// The answer to a load that is accepted at a place, with the checksum that its data leave.
+fn load_answer(session: Session, checksum: u32, size: u32, place: usize) -> Called
     requires { ⌜ (session .offset ≤ 65536) × (size ≤ 65536) ⌝ }
-    ensures { λ r. ⌜ r ≡ loadAnswer session register size place ⌝ }
+    ensures { λ r. ⌜ r ≡ loadAnswer session checksum size place ⌝ }
 {
     let words = (size + 3) / 4;
     let offset = session.offset + 12 + 4 * words;
     let totals = session.totals;
     let wrote = commands::wrote_bytes(Judged::Granted(place), size, totals.next);
-    let past = moved(fetch(session, words), register, offset);
+    let past = moved(fetch(session, words), checksum, offset);
     proceed(
         session,
         Happening::Section(size),
@@ -419,15 +419,15 @@ fn load_at(
         return halt(Refusal::Number, session);
     }
     let to = from + (size as usize);
-    let register = commands::load(
+    let checksum = commands::load(
         memory,
         place,
         session.on,
-        session.register,
+        session.checksum,
         address,
         &image[from..to],
     );
-    load_answer(session, register, size, place)
+    load_answer(session, checksum, size, place)
 }
 
 // Load.
@@ -464,7 +464,7 @@ fn fill(session: Session, memory: &mut [u8], image: &[u8]) -> Called
         memory,
         judged,
         session.on,
-        session.register,
+        session.checksum,
         address,
         size,
         kind,
@@ -488,13 +488,13 @@ fn boot_table(session: Session, memory: &mut [u8], image: &[u8]) -> Called
     let windows = session.windows;
     let granted = commands::judge_setting(windows, word, address, value);
     let judged = out_of_numbers(session, granted);
-    let done = commands::boot_table(memory, judged, session.register, word, value, delay);
+    let done = commands::boot_table(memory, judged, session.checksum, word, value, delay);
     let totals = session.totals;
     let wrote = commands::wrote_setting(judged, word, totals.next);
     finish(session, Happening::Setting, wrote, done, 5)
 }
 
-// Enable: the checksum on, its register 0.
+// Enable: the checksum on, its checksum 0.
 fn enable(session: Session) -> Called
     requires { ⌜ session .offset ≤ 65536 ⌝ }
     ensures { λ r. ⌜ r ≡ accepted session Happening.Enable noneWrote Event.Nothing (switchOn session) ⌝ }
@@ -505,12 +505,12 @@ fn enable(session: Session) -> Called
     proceed(session, Happening::Enable, wrote, Event::Nothing, next)
 }
 
-// Disable: the checksum off, its register kept.
+// Disable: the checksum off, its checksum kept.
 fn disable(session: Session) -> Called
     requires { ⌜ session .offset ≤ 65536 ⌝ }
     ensures { λ r. ⌜ r ≡ accepted session Happening.Other noneWrote Event.Nothing (switchOff session) ⌝ }
 {
-    let mut next = moved(session, session.register, session.offset + 4);
+    let mut next = moved(session, session.checksum, session.offset + 4);
     next.on = false;
     let wrote = commands::wrote_none();
     proceed(session, Happening::Other, wrote, Event::Nothing, next)
@@ -519,10 +519,10 @@ fn disable(session: Session) -> Called
 // Sequential Read Enable: no effect.
 fn pass_over(session: Session) -> Called
     requires { ⌜ session .offset ≤ 65536 ⌝ }
-    ensures { λ r. ⌜ r ≡ accepted session Happening.Other noneWrote Event.Nothing (goTo session (session .register) (session .offset + 4)) ⌝ }
+    ensures { λ r. ⌜ r ≡ accepted session Happening.Other noneWrote Event.Nothing (goTo session (session .checksum) (session .offset + 4)) ⌝ }
 {
     let wrote = commands::wrote_none();
-    let next = moved(session, session.register, session.offset + 4);
+    let next = moved(session, session.checksum, session.offset + 4);
     proceed(session, Happening::Other, wrote, Event::Nothing, next)
 }
 
@@ -543,12 +543,12 @@ fn retry(session: Session, seek: u32) -> Called
     }
 }
 
-// Request: compares the register, which becomes 0 either way.
+// Request: compares the checksum, which becomes 0 either way.
 fn request(session: Session, expected: u32, seek: u32) -> Called
     requires { ⌜ session .offset ≤ 65536 ⌝ }
     ensures { λ r. ⌜ r ≡ requested session expected seek ⌝ }
 {
-    if expected == session.register {
+    if expected == session.checksum {
         let next = moved(session, 0, session.offset + 12);
         let wrote = commands::wrote_none();
         return proceed(session, Happening::Passed, wrote, Event::Nothing, next);
@@ -596,7 +596,7 @@ fn jump_and_close(session: Session, address: u32, named: Standing) -> Called
         session,
         Happening::Other,
         commands::wrote_none(),
-        commands::jump_and_close(judged, session.register, address),
+        commands::jump_and_close(judged, session.checksum, address),
         close_words(dialect),
     );
     let mut over = last.session;

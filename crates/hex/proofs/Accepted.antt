@@ -7,18 +7,18 @@ use native.Mathlib.Decide.{ℕ-discrete, decLt}
 use native.Mathlib.Omega.{arith}
 use lib.ListN.{length}
 use Rattle.words.proofs.Choice.{by-test}
-use Rattle.script.specs.Answers.{numberOf}
-use Rattle.script.specs.declared.Refusal.{Refusal}
-use Rattle.hex.specs.Text.{imageOf, textOf, allDigits, readAnswer, writeAnswer}
+use Rattle.opcodes.specs.rules.Answers.{codeOf}
+use Rattle.opcodes.specs.declared.Refusal.{Refusal}
+use Rattle.hex.specs.rules.Text.{imageOf, textOf, allDigits, readAnswer, writeAnswer}
 use Rattle.hex.proofs.Refusing.{read-length, read-strange, read-narrow, write-length, write-narrow}
 use Rattle.hex.proofs.Turning.{image-length, text-length}
 
 -- an answer that is a refusal has no number 0
-told : {answer given : Refusal} {n : ℕ} → answer ≡ given → numberOf answer ≡ 0 → numberOf given ≡ suc n → ⊥
-told {n = n} e none number = let z : suc n ≡ 0 = sym number ∙ ap numberOf (sym e) ∙ none in omega arith
+told : {answer given : Refusal} {n : ℕ} → answer ≡ given → codeOf answer ≡ 0 → codeOf given ≡ suc n → ⊥
+told {n = n} e none number = let z : suc n ≡ 0 = sym number ∙ ap codeOf (sym e) ∙ none in omega arith
 
 -- an image that was written was of whole words, and its text fitted the room
-pub write-accepted : (image room : List ℕ) → numberOf (writeAnswer image room) ≡ 0
+pub write-accepted : (image room : List ℕ) → codeOf (writeAnswer image room) ≡ 0
     → (length image % 4 ≡ 0) × (length (textOf image) ≤ length room)
 write-accepted image room none = by-length (ℕ-discrete (length image % 4) 0) (decLt (length room) (length (textOf image)))
   where
@@ -28,7 +28,7 @@ write-accepted image room none = by-length (ℕ-discrete (length image % 4) 0) (
     by-length (yes l) (no h) = (l, omega arith)
 
 -- a text that was read was of whole words and of digits, and its image fitted the room
-pub read-accepted : (text room : List ℕ) → numberOf (readAnswer text room) ≡ 0
+pub read-accepted : (text room : List ℕ) → codeOf (readAnswer text room) ≡ 0
     → (length text % 8 ≡ 0) × (allDigits text ≡ true) × (length (imageOf text) ≤ length room)
 read-accepted text room none = by-length (ℕ-discrete (length text % 8) 0)
   where
@@ -45,13 +45,13 @@ read-accepted text room none = by-length (ℕ-discrete (length text % 8) 0)
         (λ d. absurd (told (read-strange text room l d) none refl))
 
 -- so its result is as long as it is
-pub text-fits : (image room : List ℕ) → numberOf (writeAnswer image room) ≡ 0 → (length (textOf image) ≡ 2 * length image) × (2 * length image ≤ length room)
+pub text-fits : (image room : List ℕ) → codeOf (writeAnswer image room) ≡ 0 → (length (textOf image) ≡ 2 * length image) × (2 * length image ≤ length room)
 text-fits image room none =
     let fits = write-accepted image room none in
     let size = text-length image in
     (omega arith, omega arith)
 
-pub image-fits : (text room : List ℕ) → numberOf (readAnswer text room) ≡ 0 → (length (imageOf text) ≡ length text / 2) × (length text / 2 ≤ length room)
+pub image-fits : (text room : List ℕ) → codeOf (readAnswer text room) ≡ 0 → (length (imageOf text) ≡ length text / 2) × (length text / 2 ≤ length room)
 image-fits text room none =
     let fits = read-accepted text room none in
     let size = image-length text in

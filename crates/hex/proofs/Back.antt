@@ -10,16 +10,16 @@ use lib.Dec.{lit<}
 use lib.ListN.{length, getD, take, drop, length-drop, length-map, List·getD-map}
 use lib.Pow.{mod-pow-add, pow-add}
 use lib.Seq.{ext-getD, split-at, append-snoc}
-use Rattle.words.specs.Bits.{join, within}
-use Rattle.words.specs.Bytes.{byte, number}
-use Rattle.words.specs.Choice.{pick}
+use Rattle.words.specs.rules.Bits.{join, within}
+use Rattle.words.specs.rules.Bytes.{byte, number}
+use Rattle.words.specs.rules.Choice.{pick}
 use Rattle.words.proofs.Choice.{chosen, passed}
 use Rattle.words.proofs.Joins.{join-lt}
 use Rattle.words.proofs.Numbers.{byte-number}
 use Rattle.words.proofs.Ranges.{inside, below, above}
-use Rattle.hex.specs.Digits.{digitValue, isDigit, digitOf, digitAt, digitsOf, wordOf, bytesOf}
-use Rattle.hex.specs.RoundTrip.{capital}
-use Rattle.hex.specs.Text.{allDigits, readWord, writtenWord}
+use Rattle.hex.specs.rules.Digits.{digitValue, isDigit, digitOf, digitAt, digitsOf, wordOf, bytesOf}
+use Rattle.hex.specs.claims.RoundTrip.{capital}
+use Rattle.hex.specs.rules.Text.{allDigits, readWord, writtenWord}
 use Rattle.hex.proofs.Digits.{number-value, capital-value, by-digit, by-value, value-small, known-digit, digit-number, digit-letter}
 use Rattle.hex.proofs.Texts.{digit-in, digits-drop, word-lt, word-append}
 use Rattle.hex.proofs.Turning.{bytes-length, digits-length}

@@ -7,11 +7,11 @@ use native.Mathlib.Decide.{decLt}
 use native.Mathlib.Omega.{arith}
 use lib.Dec.{leb, ltb}
 use borrow.Author.Tests.{leb-true, ltb-true, lt-ltb, le-ltb}
-use Rattle.words.specs.Bits.{within}
-use Rattle.words.specs.Choice.{pick}
+use Rattle.words.specs.rules.Bits.{within}
+use Rattle.words.specs.rules.Choice.{pick}
 use Rattle.words.proofs.Choice.{chosen, passed, by-test, both}
 use Rattle.words.proofs.Ranges.{inside, above}
-use Rattle.hex.specs.Digits.{digitValue, isDigit, digitOf}
+use Rattle.hex.specs.rules.Digits.{digitValue, isDigit, digitOf}
 
 -- where a range holds
 bounds : (first count c : ℕ) → within first count c ≡ true → (first ≤ c) × (c < first + count)

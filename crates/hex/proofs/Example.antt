@@ -1,11 +1,11 @@
 -- The example holds by computing.
 use mathlib.Core.Path.{refl}
-use Rattle.words.specs.Bits.{join, within}
-use Rattle.words.specs.Bytes.{byte, number}
-use Rattle.words.specs.Choice.{pick}
-use Rattle.hex.specs.Digits.{digitValue, digitOf, digitAt, digitsOf, wordOf, bytesOf}
-use Rattle.hex.specs.Example.{Example}
-use Rattle.hex.specs.Text.{eachWord, imageOf, textOf, allDigits, readAnswer, writeAnswer, laid, leftBy}
+use Rattle.words.specs.rules.Bits.{join, within}
+use Rattle.words.specs.rules.Bytes.{byte, number}
+use Rattle.words.specs.rules.Choice.{pick}
+use Rattle.hex.specs.rules.Digits.{digitValue, digitOf, digitAt, digitsOf, wordOf, bytesOf}
+use Rattle.hex.specs.claims.Example.{Example}
+use Rattle.hex.specs.rules.Text.{eachWord, imageOf, textOf, allDigits, readAnswer, writeAnswer, laid, leftBy}
 
 pub example : Example
 unfolding join within byte number pick digitValue digitOf digitAt digitsOf wordOf bytesOf eachWord imageOf textOf allDigits readAnswer writeAnswer laid leftBy

@@ -1,5 +1,6 @@
 pub mod Accepted
 pub mod Back
+pub mod Concluding
 pub mod Digits
 pub mod Example
 pub mod Refusing

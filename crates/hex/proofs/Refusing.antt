@@ -7,22 +7,22 @@ use lib.Dec.{eqb}
 use lib.ListN.{length}
 use borrow.Author.Tests.{lt-ltb, le-ltb, eq-eqb, ne-eqb}
 use Rattle.words.proofs.Choice.{chosen, passed}
-use Rattle.script.specs.Answers.{numberOf}
-use Rattle.script.specs.declared.Refusal.{Refusal}
-use Rattle.script.specs.declared.Refusal.the-variants as refusal
-use Rattle.hex.specs.Text.{imageOf, textOf, allDigits, readAnswer, writeAnswer, laid, leftBy}
+use Rattle.opcodes.specs.rules.Answers.{codeOf}
+use Rattle.opcodes.specs.declared.Refusal.{Refusal}
+use Rattle.opcodes.specs.declared.Refusal.the-variants as refusal
+use Rattle.hex.specs.rules.Text.{imageOf, textOf, allDigits, readAnswer, writeAnswer, laid, leftBy}
 
 -- a refusal leaves the room as it was
-pub left-refused : {answer given : Refusal} (result room : List ℕ) → answer ≡ given → eqb (numberOf given) 0 ≡ false
+pub left-refused : {answer given : Refusal} (result room : List ℕ) → answer ≡ given → eqb (codeOf given) 0 ≡ false
     → (given ≡ answer) × (room ≡ leftBy answer result room)
 unfolding leftBy
-left-refused result room e other = (sym e, sym (passed _ _ _ (ap (λ (r : Refusal). eqb (numberOf r) 0) e ∙ other)))
+left-refused result room e other = (sym e, sym (passed _ _ _ (ap (λ (r : Refusal). eqb (codeOf r) 0) e ∙ other)))
 
 -- without one the result is laid into it
 pub left-done : {answer : Refusal} (result room : List ℕ) → answer ≡ refusal.None
     → (refusal.None ≡ answer) × (laid result room ≡ leftBy answer result room)
 unfolding leftBy
-left-done result room e = (sym e, sym (chosen _ _ _ (ap (λ (r : Refusal). eqb (numberOf r) 0) e)))
+left-done result room e = (sym e, sym (chosen _ _ _ (ap (λ (r : Refusal). eqb (codeOf r) 0) e)))
 
 -- a remainder that is none, or one
 even : (n : ℕ) → n ≡ 0 → not (eqb n 0) ≡ false

@@ -7,11 +7,11 @@ use native.Mathlib.Omega.{arith}
 use lib.Dec.{lit<}
 use lib.ListN.{length, getD, take, drop, length-take, length-drop, length-map}
 use lib.Seq.{getD-drop, take-all, take-at}
-use Rattle.words.specs.Bytes.{number, bytesAt}
-use Rattle.script.specs.Answers.{numberOf}
-use Rattle.script.specs.declared.Refusal.the-variants.{None}
-use Rattle.hex.specs.RoundTrip.{capital, textIn, imageIn, RoundTrip}
-use Rattle.hex.specs.Text.{eachWord, readWord, writtenWord, imageOf, textOf, allDigits, laid, readAnswer, writeAnswer}
+use Rattle.words.specs.rules.Bytes.{number, bytesAt}
+use Rattle.opcodes.specs.rules.Answers.{codeOf}
+use Rattle.opcodes.specs.declared.Refusal.the-variants.{None}
+use Rattle.hex.specs.claims.RoundTrip.{capital, textIn, imageIn, RoundTrip}
+use Rattle.hex.specs.rules.Text.{eachWord, readWord, writtenWord, imageOf, textOf, allDigits, laid, readAnswer, writeAnswer}
 use Rattle.hex.proofs.Accepted.{write-accepted, read-accepted, text-fits, image-fits}
 use Rattle.hex.proofs.Back.{are-digits, bytes-back, digits-back}
 use Rattle.hex.proofs.Refusing.{left-done, read-done, write-done}
@@ -71,27 +71,27 @@ text-there : (image room : List ℕ) → writeAnswer image room ≡ None → tex
 unfolding laid
 text-there image room none =
     ap (take (2 * length image)) (sym (left-done (textOf image) room none .1))
-    ∙ take-at (textOf image) (drop (length (textOf image)) room) (2 * length image) (text-fits image room (ap numberOf none) .0)
+    ∙ take-at (textOf image) (drop (length (textOf image)) room) (2 * length image) (text-fits image room (ap codeOf none) .0)
 
 image-there : (text room : List ℕ) → readAnswer text room ≡ None → imageIn text room ≡ imageOf text
 unfolding laid
 image-there text room none =
     ap (take (length text / 2)) (sym (left-done (imageOf text) room none .1))
-    ∙ take-at (imageOf text) (drop (length (imageOf text)) room) (length text / 2) (image-fits text room (ap numberOf none) .0)
+    ∙ take-at (imageOf text) (drop (length (imageOf text)) room) (length text / 2) (image-fits text room (ap codeOf none) .0)
 
 pub round-trip : RoundTrip
 unfolding textOf laid
 round-trip =
     record {
       image-back = λ image room other small none fits.
-          let accepted = write-accepted image room (ap numberOf none) in
+          let accepted = write-accepted image room (ap codeOf none) in
           let same = image-same image (accepted .0) small in
           let done = left-done (imageOf (textOf image)) other
           (read-done (textOf image) other (omega (arith, text-length image)) (written-digits (length image / 4) image) (rw same fits)) in
           rw (text-there image room none)
           (sym (done .0), sym (done .1) ∙ ap (λ (result : List ℕ). laid result other) same);
       text-back = λ text room other none fits.
-          let accepted = read-accepted text room (ap numberOf none) in
+          let accepted = read-accepted text room (ap codeOf none) in
           let same = text-same text (accepted .0) (accepted .1) in
           let length-is = length-map text capital in
           let done = left-done (textOf (imageOf text)) other

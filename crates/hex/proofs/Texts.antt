@@ -11,11 +11,11 @@ use lib.ListN.{length, getD, take, drop, length-append, length-take, length-drop
 use lib.Pow.{pow-add}
 use lib.Seq.{drop-cons, drop-drop, take-add}
 use borrow.Author.Tests.{ne-eqb}
-use Rattle.words.specs.Bytes.{bytesAt}
-use Rattle.words.specs.Choice.{pick}
+use Rattle.words.specs.rules.Bytes.{bytesAt}
+use Rattle.words.specs.rules.Choice.{pick}
 use Rattle.words.proofs.Choice.{chosen, passed, by-test, both}
-use Rattle.hex.specs.Digits.{digitValue, isDigit, wordOf}
-use Rattle.hex.specs.Text.{allDigits}
+use Rattle.hex.specs.rules.Digits.{digitValue, isDigit, wordOf}
+use Rattle.hex.specs.rules.Text.{allDigits}
 use Rattle.hex.proofs.Digits.{value-small}
 
 -- one character more is looked at

@@ -4,9 +4,9 @@ use mathlib.Core.List.{List}
 use mathlib.Core.Path.{_≡_, refl}
 use lib.ListN.{length}
 use lib.Seq.{sets}
-use Rattle.words.specs.Bytes.{number, bytesAt}
-use Rattle.hex.specs.Digits.{wordOf, bytesOf, digitsOf}
-use Rattle.hex.specs.Text.{eachWord, readWord, writtenWord, imageOf, textOf, laid}
+use Rattle.words.specs.rules.Bytes.{number, bytesAt}
+use Rattle.hex.specs.rules.Digits.{wordOf, bytesOf, digitsOf}
+use Rattle.hex.specs.rules.Text.{eachWord, readWord, writtenWord, imageOf, textOf, laid}
 use Rattle.hex.proofs.WordByWord.{each-length, same-room, word-laid}
 
 pub bytes-length : (w : ℕ) → length (bytesOf w) ≡ 4

@@ -8,7 +8,7 @@ use native.Mathlib.Numerals.{add-one}
 use native.Mathlib.Omega.{arith}
 use lib.ListN.{length, take, drop, length-append, length-drop}
 use lib.Seq.{take-append-seam, drop-append-add, drop-drop, take-add, take-at, drop-at, sets, sets-eq}
-use Rattle.hex.specs.Text.{eachWord, laid}
+use Rattle.hex.specs.rules.Text.{eachWord, laid}
 
 -- a room that holds a result is as long as before
 length-laid : (result room : List ℕ) → length result ≤ length room → length (laid result room) ≡ length room

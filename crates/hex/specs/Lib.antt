@@ -1,4 +1,2 @@
-pub mod Digits
-pub mod Example
-pub mod RoundTrip
-pub mod Text
+pub mod claims
+pub mod rules

@@ -1,15 +1,17 @@
 // Scripts as hexadecimal text: eight digits a word, the highest first, read into an image and written out.
+pub mod conversions;
+
 ghost use mathlib.Core.Path.{_≡_};
 ghost use mathlib.Core.Bool.{true};
 ghost use Prim.Native.Nat.{_+_, _≤_, _<_, min, max};
 ghost use lib.ListN.{length};
 ghost use lib.Seq.{sets};
-ghost use Rattle.words.specs.Bits.{within};
-ghost use Rattle.words.specs.Bytes.{bytesAt};
-ghost use Rattle.words.specs.Choice.{pick};
-ghost use Rattle.hex.specs.Digits.{digitValue, isDigit, digitOf, digitAt, digitsOf, wordOf, bytesOf};
-ghost use Rattle.hex.specs.Text.{imageOf, textOf, allDigits, readAnswer, writeAnswer, laid, readRoom, writeRoom};
-use script::Refusal;
+ghost use Rattle.words.specs.rules.Bits.{within};
+ghost use Rattle.words.specs.rules.Bytes.{bytesAt};
+ghost use Rattle.words.specs.rules.Choice.{pick};
+ghost use Rattle.hex.specs.rules.Digits.{digitValue, isDigit, digitOf, digitAt, digitsOf, wordOf, bytesOf};
+ghost use Rattle.hex.specs.rules.Text.{imageOf, textOf, allDigits, readAnswer, writeAnswer, laid, readRoom, writeRoom};
+use opcodes::Refusal;
 
 // 0 for one of so many characters from the first on, 1 for any other.
 fn outside(character: u8, first: u8, count: u8) -> u8

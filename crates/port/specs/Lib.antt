@@ -1,1 +1,1 @@
-pub mod Port
+pub mod rules

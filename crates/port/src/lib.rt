@@ -1,10 +1,10 @@
 // The port: a standing session, lent with the memory, takes one byte a call.
-ghost use Rattle.sent.specs.Line.{unitStep};
+ghost use Rattle.sent.specs.rules.Line.{unitStep};
 ghost use Rattle.sent.specs.declared.Bus.the-variants.{Bytes};
-ghost use Rattle.port.specs.Port.{isGiven};
-use script::Event;
-use script::Refusal;
-use sent::Reply;
+ghost use Rattle.port.specs.rules.Port.{isGiven};
+use machine::Reply;
+use opcodes::Event;
+use opcodes::Refusal;
 use sent::Session;
 
 // The answer to a byte, without the session.

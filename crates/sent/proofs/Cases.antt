@@ -2,41 +2,24 @@
 use Prim.Native.Nat.{ℕ, _+_, _-_, _≤_, _<_}
 use mathlib.Core.Bool.{Bool, true, false, not, _&&_, _||_}
 use mathlib.Core.List.{List, []}
-use mathlib.Core.Path.{_≡_, refl, sym, ap, ap₂, _∙_}
+use mathlib.Core.Path.{_≡_, refl, ap, ap₂, _∙_}
 use lib.Dec.{eqb}
 use lib.ListN.{length}
 use borrow.Author.Tests.{lt-ltb, le-ltb, eq-eqb, ne-eqb}
-use Rattle.words.specs.Choice.{pick}
 use Rattle.words.proofs.Choice.{chosen, passed}
-use Rattle.windows.specs.Window.{placeOf, sumOf}
-use Rattle.windows.specs.declared.Place.{Place}
-use Rattle.windows.specs.declared.Place.the-variants.{At, Nowhere}
-use Rattle.windows.specs.declared.Right.the-variants.{Load}
-use Rattle.windows.specs.declared.Window.{Window}
-use Rattle.windows.proofs.Laws.{placed-inside}
-use Rattle.commands.specs.Commands.{placed, rangeJudged, loadJudged}
-use Rattle.commands.specs.declared.Judged.the-variants.{Granted}
-use native.Mathlib.Omega.{arith}
-use Rattle.script.specs.Opcodes.{lookedUp}
-use Rattle.script.specs.declared.Found.{Found}
-use Rattle.script.specs.declared.Found.the-variants.{Known, Retired, Unknown}
-use Rattle.script.specs.declared.Mode.the-variants.{Sent}
-use Rattle.script.specs.declared.Refusal.the-variants as refusal
-use Rattle.sent.specs.Bus.{unitsInWord, startUnit, pushed}
-use Rattle.sent.specs.Line.{Outcome, plainly, gathered, carried, isStart, unitStep}
-use Rattle.sent.specs.Machine as machine
-use Rattle.sent.specs.Machine.{_leaving_, atOpcode, inPhase, wordStep}
-use Rattle.sent.specs.Purpose.{opcodePurpose, purposeOf, served}
-use Rattle.sent.specs.Replies.{silence, startAnswer}
+use Rattle.windows.specs.rules.Window.{sumOf}
+use Rattle.opcodes.specs.declared.Refusal.the-variants as refusal
+use Rattle.sent.specs.rules.Bus.{unitsInWord, startUnit, pushed}
+use Rattle.sent.specs.rules.Line.{plainly, gathered, carried, isStart, unitStep}
+use Rattle.machine.specs.rules.Machine as machine
+use Rattle.machine.specs.rules.Machine.{_leaving_, wordStep}
+use Rattle.machine.specs.rules.Replies.{silence}
+use Rattle.sent.specs.rules.Line.{startAnswer}
 use Rattle.sent.specs.declared.Bus.{Bus}
-use Rattle.sent.specs.declared.Core.{Core}
-use Rattle.sent.specs.declared.Phase.{Phase}
-use Rattle.sent.specs.declared.Phase.the-variants as phase
-use Rattle.sent.specs.declared.Purpose.{Purpose}
 use Rattle.sent.specs.declared.Session.{Session}
 
 -- the answer on the line needs only the word's answer, and the memory is the word's
-module _ (s : Session) (o : machine.Outcome) where
+module _ (s : Session) (o : machine.WordOutcome) where
   pub carried-answer : carried s (o .answer leaving []) .answer ≡ carried s o .answer
   unfolding carried
   carried-answer = refl
@@ -44,31 +27,6 @@ module _ (s : Session) (o : machine.Outcome) where
   pub carried-memory : o .memory ≡ carried s o .memory
   unfolding carried
   carried-memory = refl
-
--- a word taken for its purpose is the word in its phase
-opcode-served : (k : Core) (m : List ℕ) (word : ℕ) (f : Found) → served (opcodePurpose f) k m word ≡ atOpcode k m word f
-unfolding pick
-opcode-served k m word Unknown = refl
-opcode-served k m word Retired = refl
-opcode-served k m word (Known command words) = refl
-
-pub purpose-served : (p : Phase) (k : Core) (m : List ℕ) (word : ℕ) → served (purposeOf p (k .dialect) word) k m word ≡ inPhase p k m word
-unfolding pick
-purpose-served phase.Opcode k m word = opcode-served k m word (lookedUp word Sent (k .dialect))
-purpose-served (phase.Argument command left kept) k m word = refl
-purpose-served (phase.Data end left) k m word = refl
-purpose-served (phase.Echo n) k m word = refl
-
-module _ (k : Core) (m : List ℕ) (word : ℕ) {p : Purpose} (known : purposeOf (k .stage .phase) (k .dialect) word ≡ p) where
-  served-word : served p k m word ≡ wordStep k m word
-  unfolding wordStep
-  served-word = sym (ap (λ (x : Purpose). served x k m word) known) ∙ purpose-served (k .stage .phase) k m word
-
-  pub served-answer : served p k m word .answer ≡ wordStep k m word .answer
-  served-answer = ap (λ (o : machine.Outcome). o .answer) served-word
-
-  pub served-memory : served p k m word .memory ≡ wordStep k m word .memory
-  served-memory = ap (λ (o : machine.Outcome). o .memory) served-word
 
 -- the start unit: no other; before the first; inside a word; again where a word would begin
 module _ (bus : Bus) (s : Session) (u : ℕ) where
@@ -128,15 +86,3 @@ module _ (bus : Bus) (s : Session) (m : List ℕ) (u : ℕ) where
           unit-whole h =
               passed _ _ _ running ∙ passed _ _ _ (ap not (eq-eqb _ _ lent)) ∙ passed _ _ _ other ∙ passed _ _ _ (ap not since)
               ∙ passed _ _ _ (le-ltb _ _ h)
-
--- a load that is granted lies inside the lent memory
-pub granted-inside : (windows : List Window) (address size place : ℕ) → loadJudged windows address size ≡ Granted place
-    → place + size ≤ sumOf windows
-unfolding loadJudged rangeJudged
-granted-inside windows address size place granted = go (placeOf windows Load address size) refl granted
-  where
-    go : (found : Place) → placeOf windows Load address size ≡ found → placed refusal.Range found ≡ Granted place → place + size ≤ sumOf windows
-    go (At q) e g =
-        let same : q ≡ place = cc in
-        placed-inside windows Load address size place (e ∙ ap At same)
-    go Nowhere e g = let z : _≡_ {A = ℕ} 0 1 = cc in omega arith

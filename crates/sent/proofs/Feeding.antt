@@ -3,10 +3,10 @@ use Prim.Native.Nat.{ℕ}
 use mathlib.Core.List.{List, [], _∷_, _++_, map, append-assoc}
 use mathlib.Core.Path.{_≡_, refl, sym, ap, subst, _∙_}
 use lib.ListN.{length, replicate}
-use Rattle.script.specs.declared.Refusal.the-variants.{None}
-use Rattle.sent.specs.Bus.{unitsOf, allUnits}
-use Rattle.sent.specs.Feeding.{State, Heard, next, heard, fed, answers, NoneRefused}
-use Rattle.sent.specs.Line.{Outcome, unitStep}
+use Rattle.opcodes.specs.declared.Refusal.the-variants.{None}
+use Rattle.sent.specs.rules.Bus.{unitsOf, allUnits}
+use Rattle.sent.specs.rules.Feeding.{State, Heard, next, heard, fed, answers, NoneRefused}
+use Rattle.sent.specs.rules.Line.{UnitOutcome, unitStep}
 use Rattle.sent.specs.declared.Bus.{Bus}
 
 module _ (bus : Bus) where
@@ -72,7 +72,7 @@ none-refused-words bus x ws vs n =
     none-refused-append bus x (allUnits bus ws) (allUnits bus vs) (subst (NoneRefused bus x) (units-append bus ws vs) n)
 
 -- one unit
-pub unit-goes : {bus : Bus} {x : State} {u : ℕ} {o : Outcome} → unitStep bus (x .session) (x .memory) u ≡ o
+pub unit-goes : {bus : Bus} {x : State} {u : ℕ} {o : UnitOutcome} → unitStep bus (x .session) (x .memory) u ≡ o
     → Goes bus x (u ∷ []) (record { session = o .answer .session; memory = o .memory })
     (record { refusal = o .answer .refusal; reply = o .answer .reply; event = o .answer .event } ∷ [])
 unfolding fed answers

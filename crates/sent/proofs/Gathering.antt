@@ -7,15 +7,15 @@ use mathlib.Core.Path.{_≡_, ap, _∙_}
 use native.Mathlib.Omega.{arith}
 use lib.Dec.{eqb}
 use lib.ListN.{getD}
-use Rattle.words.specs.Bytes.{byte}
+use Rattle.words.specs.rules.Bytes.{byte}
 use Rattle.words.proofs.Choice.{by-test}
-use Rattle.sent.specs.Bus.{startUnit, unitsOf, firstUnit, pushed}
-use Rattle.sent.specs.Feeding.{State}
-use Rattle.sent.specs.Lift.{atWord}
-use Rattle.sent.specs.Line.{isStart}
+use Rattle.sent.specs.rules.Bus.{startUnit, unitsOf, firstUnit, pushed}
+use Rattle.sent.specs.rules.Feeding.{State}
+use Rattle.sent.specs.claims.Lift.{atWord}
+use Rattle.sent.specs.rules.Line.{isStart}
 use Rattle.sent.specs.declared.Bus.{Bus}
 use Rattle.sent.specs.declared.Bus.the-variants.{Bytes, Halves}
-use Rattle.sent.specs.declared.Core.{Core}
+use Rattle.machine.specs.declared.Core.{Core}
 use Rattle.sent.proofs.Cases.{start-other}
 
 -- a session with some units of a word gathered, and its memory

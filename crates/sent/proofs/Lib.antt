@@ -1,12 +1,6 @@
-pub mod ByTheTable
 pub mod Cases
 pub mod Counting
-pub mod Every
 pub mod Feeding
 pub mod Gathering
-pub mod Granted
-pub mod Laws
 pub mod Lift
-pub mod Memory
 pub mod Units
-pub mod Wrote

@@ -8,29 +8,30 @@ use native.Mathlib.Omega.{arith}
 use lib.Dec.{eqb, lit<, lit≤}
 use lib.ListN.{length, getD, replicate}
 use borrow.Author.Tests.{eq-eqb, eqb-true, eqb-false}
-use Rattle.words.specs.Bytes.{byte}
+use Rattle.words.specs.rules.Bytes.{byte}
 use Rattle.words.proofs.Choice.{chosen, by-test, of-choice}
-use Rattle.windows.specs.Window.{sumOf}
+use Rattle.windows.specs.rules.Window.{sumOf}
 use Rattle.windows.specs.declared.Window.{Window}
-use Rattle.script.specs.Answers.{numberOf}
-use Rattle.script.specs.declared.Dialect.{Dialect}
-use Rattle.script.specs.declared.Refusal.the-variants as refusal
-use Rattle.sent.specs.Bus.{unitBits, unitsInWord, unitsOf, allUnits, firstUnit, pushed}
-use Rattle.sent.specs.Feeding.{State, Heard, next, fed, answers, NoneRefused}
-use Rattle.sent.specs.Lift.{atWord, silent, refusedBy, heardWord, Plain, Ready, UnitsAreTheWord, Absorbed, replied, Words, EitherLine, Lines}
-use Rattle.sent.specs.Line.{Outcome, carried, isStart, unitStep}
-use Rattle.sent.specs.Machine as machine
-use Rattle.sent.specs.Machine.{wordStep}
-use Rattle.sent.specs.Opening.{openedBy}
-use Rattle.sent.specs.Replies.{startAnswer, sentBytes}
+use Rattle.opcodes.specs.rules.Answers.{codeOf}
+use Rattle.opcodes.specs.declared.Dialect.{Dialect}
+use Rattle.opcodes.specs.declared.Refusal.the-variants as refusal
+use Rattle.sent.specs.rules.Bus.{unitBits, unitsInWord, unitsOf, allUnits, firstUnit, pushed}
+use Rattle.sent.specs.rules.Feeding.{State, Heard, next, fed, answers, NoneRefused}
+use Rattle.sent.specs.claims.Lift.{atWord, silent, refusedBy, heardWord, Plain, Ready, UnitsAreTheWord, Absorbed, replied, Words, EitherLine, Lines}
+use Rattle.sent.specs.rules.Line.{UnitOutcome, carried, isStart, unitStep}
+use Rattle.machine.specs.rules.Machine as machine
+use Rattle.machine.specs.rules.Machine.{wordStep}
+use Rattle.sent.specs.rules.Opening.{openedBy}
+use Rattle.sent.specs.rules.Line.{startAnswer}
+use Rattle.machine.specs.rules.Replies.{sentBytes}
 use Rattle.sent.specs.declared.Bus.{Bus}
 use Rattle.sent.specs.declared.Bus.the-variants.{Bytes, Halves}
-use Rattle.sent.specs.declared.Core.{Core}
+use Rattle.machine.specs.declared.Core.{Core}
 use Rattle.sent.specs.declared.Line.{Line}
 use Rattle.sent.specs.declared.Opened.{Opened}
-use Rattle.sent.specs.declared.Taken.{Taken}
+use Rattle.machine.specs.declared.Taken.{Taken}
 use Rattle.sent.proofs.Cases.{unit-ended, unit-gathered, unit-whole}
-use Rattle.sent.proofs.Every.{every-word}
+use Rattle.machine.proofs.Every.{every-word}
 use Rattle.sent.proofs.Feeding.{fed-append, answers-append, Goes, _then_, unit-goes}
 use Rattle.sent.proofs.Gathering.{holding, bytes-again, halves-again, begins-word, inside-word}
 
@@ -109,17 +110,17 @@ units-are-the-word bus k m word ready =
       accepted = λ e.
           goes .leads
           ∙ ap (λ (l : Line). record { session = record { core = o .answer .core; line = l }; memory = o .memory })
-          (chosen _ _ _ (eq-eqb (numberOf (o .answer .refusal)) 0 e));
+          (chosen _ _ _ (eq-eqb (codeOf (o .answer .refusal)) 0 e));
       refused = λ h.
           (ap (λ (x : State). x .session .core) (goes .leads), every .ended h, ap (λ (x : State). x .memory) (goes .leads) ∙ every .untouched h);
     }
 
 -- a word that is accepted, as it goes
-pub accepted-goes : (bus : Bus) (k : Core) (m : List ℕ) (word : ℕ) → Ready bus k m word → {o : machine.Outcome} → wordStep k m word ≡ o
-    → numberOf (o .answer .refusal) ≡ 0 → Goes bus (atWord k m) (unitsOf bus word) (atWord (o .answer .core) (o .memory)) (heardWord bus (o .answer))
+pub accepted-goes : (bus : Bus) (k : Core) (m : List ℕ) (word : ℕ) → Ready bus k m word → {o : machine.WordOutcome} → wordStep k m word ≡ o
+    → codeOf (o .answer .refusal) ≡ 0 → Goes bus (atWord k m) (unitsOf bus word) (atWord (o .answer .core) (o .memory)) (heardWord bus (o .answer))
 accepted-goes bus k m word ready e accepted =
     let lift = units-are-the-word bus k m word ready in
-    rw (← e) (record { leads = lift .accepted (ap (λ (o : machine.Outcome). numberOf (o .answer .refusal)) e ∙ accepted); says = lift .hears })
+    rw (← e) (record { leads = lift .accepted (ap (λ (o : machine.WordOutcome). codeOf (o .answer .refusal)) e ∙ accepted); says = lift .hears })
 
 -- where none of the units of a word is refused, nor is the word
 unfoldable AllNone : List Heard → Type 0
@@ -147,12 +148,12 @@ unfolding fed answers
 absorbed bus x [] over = record { stays = refl; hears = refl }
 absorbed bus x (u ∷ us) over =
     let step = unit-ended bus (x .session) (x .memory) u over in
-    let same : next bus x u ≡ x = ap (λ (o : Outcome). record { session = o .answer .session; memory = o .memory }) step in
+    let same : next bus x u ≡ x = ap (λ (o : UnitOutcome). record { session = o .answer .session; memory = o .memory }) step in
     let rest = absorbed bus x us over in
     record {
       stays = ap (λ (y : State). fed bus y us) same ∙ rest .stays;
       hears = ap₂ _∷_
-          (ap (λ (o : Outcome). record { refusal = o .answer .refusal; reply = o .answer .reply; event = o .answer .event }) step)
+          (ap (λ (o : UnitOutcome). record { refusal = o .answer .refusal; reply = o .answer .reply; event = o .answer .event }) step)
           (ap (λ (y : State). answers bus y us) same ∙ rest .hears);
     }
 
@@ -225,7 +226,7 @@ words-either (word ∷ words) k m lent w =
     let o = wordStep k m word in
     let reply = ap replied (left .hears) ∙ same-word (o .answer) ∙ sym (ap replied (right .hears)) in
     word-either (atWord k m) (atWord k m) word words reply
-    (by-test (eqb (numberOf (o .answer .refusal)) 0)
+    (by-test (eqb (codeOf (o .answer .refusal)) 0)
     (λ e.
     let accepted = eqb-true _ _ e in
     let lent-still = every .same-length ∙ lent ∙ ap sumOf (sym (every .windows)) in
@@ -238,7 +239,7 @@ words-either (word ∷ words) k m lent w =
     ended-either _ _ words (l .0 ∙ sym (r .0)) (l .2 ∙ sym (r .2)) (ap (λ (c : Core). c .ended) (l .0) ∙ l .1))))
 
 -- a reply is whole units
-abbrev InUnits : Bus → Outcome → Type 0
+abbrev InUnits : Bus → UnitOutcome → Type 0
 InUnits bus o = o .answer .reply .count % (unitBits bus / 8) ≡ 0
 
 silence-whole : (bus : Bus) → 0 % (unitBits bus / 8) ≡ 0

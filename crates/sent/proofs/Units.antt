@@ -4,7 +4,7 @@ use mathlib.Core.List.{List, [], _∷_}
 use mathlib.Core.Path.{_≡_, refl, sym, ap₂, _∙_}
 use native.Mathlib.Omega.{arith}
 use lib.ListN.{length, getD}
-use Rattle.sent.specs.Bus.{halvesOf}
+use Rattle.sent.specs.rules.Bus.{halvesOf}
 
 pub halves-count : (bytes : List ℕ) → length (halvesOf bytes) ≡ length bytes / 2
 unfolding halvesOf

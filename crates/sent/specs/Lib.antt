@@ -1,11 +1,2 @@
-pub mod Bus
-pub mod Counting
-pub mod Feeding
-pub mod Lift
-pub mod Line
-pub mod Machine
-pub mod Opening
-pub mod Purpose
-pub mod Replies
-pub mod Words
-pub mod Wrote
+pub mod claims
+pub mod rules

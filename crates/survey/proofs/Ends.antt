@@ -5,7 +5,7 @@ use mathlib.Core.Path.{_≡_}
 use native.Mathlib.Nat.{mod-eq-of-lt}
 use native.Mathlib.Omega.{arith}
 use borrow.Author.Tests.{leb-false}
-use Rattle.survey.specs.Survey.{mostImages, isFull, including}
+use Rattle.survey.specs.rules.Survey.{mostImages, isFull, including}
 use Rattle.survey.specs.declared.Image.{Image}
 use Rattle.survey.specs.declared.Survey.{Survey}
 

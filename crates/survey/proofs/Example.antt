@@ -5,11 +5,11 @@ use mathlib.Core.Path.{_≡_, refl, ap}
 use native.Mathlib.Omega.{arith}
 use lib.Count.{onesIn, ones}
 use lib.ListN.{getD}
-use Rattle.words.specs.Choice.{pick}
-use Rattle.survey.specs.Images.{setOf, unlike}
-use Rattle.survey.specs.Survey.{latest, lineOf, including}
-use Rattle.survey.specs.Lists.{surveyFrom, linesFrom}
-use Rattle.survey.specs.Example.{Worked, OpenedIsMissed}
+use Rattle.words.specs.rules.Choice.{pick}
+use Rattle.survey.specs.rules.Images.{setOf, unlike}
+use Rattle.survey.specs.rules.Survey.{latest, lineOf, including}
+use Rattle.survey.specs.claims.Lists.{surveyFrom, linesFrom}
+use Rattle.survey.specs.claims.Example.{Worked, OpenedIsMissed}
 
 pub worked : Worked
 unfolding onesIn ones pick setOf unlike latest lineOf including surveyFrom linesFrom

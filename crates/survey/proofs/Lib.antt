@@ -1,4 +1,4 @@
-pub mod Images
-pub mod Lists
 pub mod Ends
 pub mod Example
+pub mod Images
+pub mod Lists

@@ -12,18 +12,18 @@ use lib.Count.{ones-le}
 use lib.Dec.{leb}
 use lib.ListN.{length, take, drop, length-append, length-map}
 use lib.Seq.{take-at, drop-at, drop-append-add}
-use Rattle.words.specs.Bits.{join}
-use Rattle.words.specs.Bytes.{number, bytesAt, wordAt}
+use Rattle.words.specs.rules.Bits.{join}
+use Rattle.words.specs.rules.Bytes.{number, bytesAt, wordAt}
 use Rattle.words.proofs.Choice.{chosen, passed, by-test, of-choice}
-use Rattle.survey.specs.Images.{absent, memoryLeft, imageOf, isOpened, wasOpened, setOf, unlike}
-use Rattle.survey.specs.Survey.{mostImages, begun, countedBy, latest, lineOf, including}
-use Rattle.survey.specs.Lists.{surveyFrom, surveyOf, linesFrom, linesOf, openedOnes, lastOr, lineAfter, linesAfter, EachLine, FullAtTheLast, totalsOver, AllWords, TotalsOfTheLines, imageNamed, WordsFit, AllSmall, AtMost32, figures, AbsentTakenOut}
+use Rattle.survey.specs.rules.Images.{absent, memoryLeft, imageOf, isOpened, wasOpened, setOf, unlike}
+use Rattle.survey.specs.rules.Survey.{mostImages, begun, countedBy, latest, lineOf, including}
+use Rattle.survey.specs.claims.Lists.{surveyFrom, surveyOf, linesFrom, linesOf, openedOnes, lastOr, lineAfter, linesAfter, EachLine, FullAtTheLast, totalsOver, AllWords, TotalsOfTheLines, imageNamed, WordsFit, AllSmall, AtMost32, figures, AbsentTakenOut}
 use Rattle.survey.specs.declared.Image.{Image}
-use Rattle.survey.specs.declared.Line.{Line}
+use Rattle.survey.specs.declared.SurveyLine.{SurveyLine}
 use Rattle.survey.specs.declared.Outcome.{Outcome}
 use Rattle.survey.specs.declared.Outcome.the-variants.{Entered, Refused, Absent}
 use Rattle.survey.specs.declared.Survey.{Survey}
-use Rattle.survey.specs.declared.Totals.{Totals}
+use Rattle.survey.specs.declared.SurveyTotals.{SurveyTotals}
 
 -- ---- each line
 
@@ -67,7 +67,7 @@ lines-fit : (images : List Image) {s : Survey} {earlier : List Image} → length
 unfolding linesFrom
 lines-fit [] room fits = refl
 lines-fit (i ∷ images) {s} {earlier} room fits =
-    ap₂ (λ (l : Line) (ls : List Line). l ∷ ls) (line-fits i (omega arith) fits)
+    ap₂ (λ (l : SurveyLine) (ls : List SurveyLine). l ∷ ls) (line-fits i (omega arith) fits)
     (lines-fit images (omega (arith, one-more earlier i)) (fits-on i (omega arith) fits))
 
 pub each-line : EachLine
@@ -149,7 +149,7 @@ lines-length [] s = refl
 lines-length (i ∷ images) s = ap suc (lines-length images (including s i))
 
 -- the two sums grow by those of the lines: so many images can't bring them to 2 ^ 32
-record Sums (s : Survey) (images : List Image) (t : Totals) : Type 0 where
+record Sums (s : Survey) (images : List Image) (t : SurveyTotals) : Type 0 where
   entered : surveyFrom s images .entered ≡ s .entered + t .entered
   differ : surveyFrom s images .differ ≡ s .differ + t .differ
 
@@ -180,7 +180,7 @@ lines-append : (images : List Image) (s : Survey) (later : List Image)
     → linesFrom s (images ++ later) ≡ linesFrom s images ++ linesFrom (surveyFrom s images) later
 unfolding surveyFrom linesFrom
 lines-append [] s later = refl
-lines-append (i ∷ images) s later = ap (λ (ls : List Line). lineOf s i ∷ ls) (lines-append images (including s i) later)
+lines-append (i ∷ images) s later = ap (λ (ls : List SurveyLine). lineOf s i ∷ ls) (lines-append images (including s i) later)
 
 -- set and differ ask the survey so far for the image before, and for nothing else
 same-figures : (images : List Image) (s t : Survey) → s .last ≡ t .last → figures (linesFrom s images) ≡ figures (linesFrom t images)

@@ -1,4 +1,2 @@
-pub mod Images
-pub mod Survey
-pub mod Lists
-pub mod Example
+pub mod claims
+pub mod rules

@@ -1,8 +1,8 @@
 // The release survey: what becomes of each image, a line an image, and the totals.
 ghost use mathlib.Core.Path.{_≡_};
-ghost use Rattle.survey.specs.Images.{ended, absent, imageOf, isOpened, setOf, unlike};
-ghost use Rattle.survey.specs.Survey.{begun, isFull, enteredBy, latest, lineOf, including, totalsOf};
-use script::Dialect;
+ghost use Rattle.survey.specs.rules.Images.{ended, absent, imageOf, isOpened, setOf, unlike};
+ghost use Rattle.survey.specs.rules.Survey.{begun, isFull, enteredBy, latest, lineOf, including, totalsOf};
+use opcodes::Dialect;
 
 pub enum Outcome {
     Entered,
@@ -24,14 +24,14 @@ pub struct Survey {
     pub last: Image,
 }
 
-pub struct Line {
+pub struct SurveyLine {
     pub image: u32,
     pub outcome: Outcome,
     pub set: u32,
     pub differ: u32,
 }
 
-pub struct Totals {
+pub struct SurveyTotals {
     pub images: u32,
     pub entered: u32,
     pub differ: u32,
@@ -54,7 +54,7 @@ impl Image {
     {
         let opened = checking::open(Dialect::Am17xx, bytes);
         let refusal = opened.refusal;
-        if refusal.number() != 0 {
+        if refusal.code() != 0 {
             return Image {
                 outcome: Outcome::Refused,
                 word: 0,
@@ -62,10 +62,10 @@ impl Image {
         }
         let session = opened.session;
         let mut memory = [0u8; 4096];
-        let called = runs::run(session, &mut memory, bytes);
+        let called = flash_runs::run(session, &mut memory, bytes);
         let last = called.refusal;
         Image {
-            outcome: ended(last.number() == 0),
+            outcome: ended(last.code() == 0),
             word: words::word_at(&memory, 0),
         }
     }
@@ -159,12 +159,12 @@ impl Survey {
     }
 
     // The line of the next image.
-    pub fn line(self, image: Image) -> Line
+    pub fn line(self, image: Image) -> SurveyLine
         ensures { λ r. ⌜ r ≡ lineOf self image ⌝ }
     {
         let outcome = image.outcome;
         let last = self.last;
-        Line {
+        SurveyLine {
             image: std::num::wrapping_add_u32(self.written, 1),
             outcome,
             set: set_of(image),
@@ -186,10 +186,10 @@ impl Survey {
     }
 
     // The last line.
-    pub fn totals(self) -> Totals
+    pub fn totals(self) -> SurveyTotals
         ensures { λ r. ⌜ r ≡ totalsOf self ⌝ }
     {
-        Totals {
+        SurveyTotals {
             images: self.written,
             entered: self.entered,
             differ: self.differ,

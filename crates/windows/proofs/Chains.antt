@@ -8,7 +8,7 @@ use borrow.Author.Tests.{le-leb, leb-true, eqb-true}
 use Rattle.words.proofs.Choice.{both}
 use Rattle.windows.specs.declared.Window.{Window}
 use Rattle.windows.specs.declared.Right.{Right}
-use Rattle.windows.specs.Window.{hasRight, endOf, holdsAddress, carriesOn, chainGrants, sumOf}
+use Rattle.windows.specs.rules.Window.{hasRight, endOf, holdsAddress, carriesOn, chainGrants, sumOf}
 use Rattle.windows.proofs.Parts.{Held, held}
 
 -- where one of two would do and one does, by which

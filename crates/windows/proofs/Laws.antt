@@ -11,8 +11,8 @@ use Rattle.words.proofs.Choice.{chosen, passed, by-test}
 use Rattle.windows.specs.declared.Window.{Window}
 use Rattle.windows.specs.declared.Right.{Right}
 use Rattle.windows.specs.declared.Place.the-variants.{At, Nowhere}
-use Rattle.windows.specs.Window.{endOf, inside, holdsAddress, chainGrants, placeFrom, placeOf, sumOf, some, insideSome}
-use Rattle.windows.specs.Map.{goodMap, zeroWindow, keptOf}
+use Rattle.windows.specs.rules.Window.{endOf, inside, holdsAddress, chainGrants, placeFrom, placeOf, sumOf, some, insideSome}
+use Rattle.windows.specs.rules.Map.{goodMap, zeroWindow, keptOf}
 use Rattle.windows.proofs.Chains.{carried, chained, chain-not-held}
 use Rattle.windows.proofs.Parts.{good}
 

@@ -10,14 +10,14 @@ use borrow.Author.Tests.{le-leb, lt-leb, leb-true, leb-false, eq-eqb, eqb-true}
 use lib.ListN.{length, getD, take, drop, set, length-take, drop-of-length-le}
 use lib.Seq.{drop-cons, getD-take, take-all, take-suc-set, append-snoc}
 use lib.Dec.{leb}
-use Rattle.words.specs.Choice.{pick}
+use Rattle.words.specs.rules.Choice.{pick}
 use Rattle.words.proofs.Choice.{chosen, passed, by-test, both, refuted}
 use Rattle.windows.specs.declared.Window.{Window}
 use Rattle.windows.specs.declared.Right.{Right}
 use Rattle.windows.specs.declared.Place.the-variants.{At, Nowhere}
-use Rattle.windows.specs.Window.{hasRight, endOf, holdsAddress, carriesOn, chainGrants, placeFrom, sumOf}
+use Rattle.windows.specs.rules.Window.{hasRight, endOf, holdsAddress, carriesOn, chainGrants, placeFrom, sumOf}
 use Rattle.windows.proofs.Chains.{carries-here, chain-here, chain-not-held, chain-broken}
-use Rattle.windows.specs.Map.{soundWindow, allSound, rising, soundAndRising, zeroWindow, keptOf}
+use Rattle.windows.specs.rules.Map.{soundWindow, allSound, rising, soundAndRising, zeroWindow, keptOf}
 
 -- at the end none is left
 module _ (ws : List Window) (i : ℕ) (h : length ws ≤ i) where

@@ -9,8 +9,8 @@ use borrow.Author.Tests.{ltb-true, leb-true, lt-ltb, le-leb}
 use Rattle.words.proofs.Choice.{both}
 use Rattle.windows.specs.declared.Window.{Window}
 use Rattle.windows.specs.declared.Right.{Right}
-use Rattle.windows.specs.Window.{hasRight, endOf, inside, holdsAddress, grantsRange, sumOf}
-use Rattle.windows.specs.Map.{soundWindow, soundAndRising, goodMap}
+use Rattle.windows.specs.rules.Window.{hasRight, endOf, inside, holdsAddress, grantsRange, sumOf}
+use Rattle.windows.specs.rules.Map.{soundWindow, soundAndRising, goodMap}
 
 -- an address inside a window lies between its first address and its end
 pub record Within (w : Window) (a : ℕ) : Type 0 where

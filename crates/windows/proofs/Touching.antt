@@ -13,9 +13,9 @@ use Rattle.windows.specs.declared.Window.{Window}
 use Rattle.windows.specs.declared.Right.{Right}
 use Rattle.windows.specs.declared.Place.{Place}
 use Rattle.windows.specs.declared.Place.the-variants.{At, Nowhere}
-use Rattle.windows.specs.Map.{allSound, rising, goodMap, zeroWindow, keptOf}
-use Rattle.windows.specs.Touching.{hasPlace, heldBySome, oneGrants, someBegins, OnTouching, TouchingWindows}
-use Rattle.windows.specs.Window.{hasRight, endOf, inside, holdsAddress, grantsRange, carriesOn, chainGrants, placeFrom, placeOf, sumOf, some, insideSome}
+use Rattle.windows.specs.rules.Map.{allSound, rising, goodMap, zeroWindow, keptOf}
+use Rattle.windows.specs.claims.Touching.{hasPlace, heldBySome, oneGrants, someBegins, OnTouching, TouchingWindows}
+use Rattle.windows.specs.rules.Window.{hasRight, endOf, inside, holdsAddress, grantsRange, carriesOn, chainGrants, placeFrom, placeOf, sumOf, some, insideSome}
 use Rattle.windows.proofs.Chains.{either, carries-here, by-next, chained, chain-here, chain-not-held}
 use Rattle.windows.proofs.Parts.{within, held, held-by-right, granted, sound, good}
 

@@ -1,3 +1,2 @@
-pub mod Map
-pub mod Touching
-pub mod Window
+pub mod claims
+pub mod rules

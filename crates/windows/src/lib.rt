@@ -3,9 +3,9 @@ ghost use mathlib.Core.Path.{_≡_};
 ghost use Prim.Native.Nat.{_≤_, _<_};
 ghost use lib.Dec.{leb};
 ghost use lib.ListN.{take, drop, set};
-ghost use Rattle.words.specs.Choice.{pick};
-ghost use Rattle.windows.specs.Window.{hasRight, endOf, holdsAddress, grantsRange, carriesOn, placeOf, sumOf};
-ghost use Rattle.windows.specs.Map.{soundWindow, soundAndRising, goodMap, keptOf, zeroWindow};
+ghost use Rattle.words.specs.rules.Choice.{pick};
+ghost use Rattle.windows.specs.rules.Window.{hasRight, endOf, holdsAddress, grantsRange, carriesOn, placeOf, sumOf};
+ghost use Rattle.windows.specs.rules.Map.{soundWindow, soundAndRising, goodMap, keptOf, zeroWindow};
 
 // A stretch of addresses, and the sum of the numbers of its rights.
 pub struct Window {

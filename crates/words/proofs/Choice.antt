@@ -1,7 +1,7 @@
 -- Tests and choices: which side of a choice counts, and what a test that holds says of its parts. Each goes by the cases of a test.
 use mathlib.Core.Bool.{Bool, true, false, _&&_, true≢false}
 use mathlib.Core.Path.{_≡_, refl, sym, ap}
-use Rattle.words.specs.Choice.{pick}
+use Rattle.words.specs.rules.Choice.{pick}
 
 module _ {ℓ} {A : Type ℓ} where
   -- the first where the test is true

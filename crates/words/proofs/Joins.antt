@@ -5,7 +5,7 @@ use native.Mathlib.Nat.{div-eq-of-lt, lt-of-lt-of-le, mod-lt}
 use native.Mathlib.Omega.{arith}
 use lib.Pow.{pow-pos, pow-mono, pow-add, shr-lt, shr-shr, high, low, field, mod-mod-pow}
 use lib.Arith.{digits-lt}
-use Rattle.words.specs.Bits.{bit, join, withField}
+use Rattle.words.specs.rules.Bits.{bit, join, withField}
 
 -- a number has nothing at or above a power of two that it is below
 pub past : {v k j : ℕ} → v < 2 ^ k → k ≤ j → v / 2 ^ j ≡ 0

@@ -7,8 +7,8 @@ use native.Mathlib.Omega.{arith}
 use lib.ListN.{length, getD, take, drop, length-drop}
 use lib.Pow.{shr-shr}
 use lib.Seq.{take-all}
-use Rattle.words.specs.Bits.{join}
-use Rattle.words.specs.Bytes.{byte, number}
+use Rattle.words.specs.rules.Bits.{join}
+use Rattle.words.specs.rules.Bytes.{byte, number}
 use Rattle.words.proofs.Joins.{join-low, join-high}
 
 -- the first four bytes, one by one; those that are missing count as 0

@@ -10,7 +10,7 @@ use native.Mathlib.Numerals.{add-one}
 use native.Mathlib.Omega.{arith}
 use lib.ListN.{length, getD, set, length-set}
 use lib.Seq.{set-out, getD-set-same, getD-set-other}
-use Rattle.words.specs.Bytes.{put}
+use Rattle.words.specs.rules.Bytes.{put}
 
 pub length-put : (m : List ℕ) (at n : ℕ) (f : ℕ → ℕ) → length (put m at n f) ≡ length m
 unfolding put

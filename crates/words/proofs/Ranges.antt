@@ -6,7 +6,7 @@ use native.Mathlib.Decide.{decLt}
 use native.Mathlib.Omega.{arith}
 use lib.Dec.{leb, ltb}
 use borrow.Author.Tests.{lt-ltb, le-ltb, le-leb, lt-leb}
-use Rattle.words.specs.Bits.{within}
+use Rattle.words.specs.rules.Bits.{within}
 
 module _ (s n k : ℕ) where
   pub inside : s ≤ k → k < s + n → within s n k ≡ true

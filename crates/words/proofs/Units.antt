@@ -8,9 +8,9 @@ use native.Mathlib.Omega.{arith}
 use lib.Dec.{leb, lit<, lit≤}
 use lib.ListN.{length, take, drop, length-take}
 use lib.Seq.{take-all}
-use borrow.Author.Tests.{lt-ltb, le-ltb, le-leb, lt-leb}
-use Rattle.words.specs.Bits.{withField}
-use Rattle.words.specs.Bytes.{byte, number, put, bytesAt, sizeOf, fits, fieldFits, written, fieldWritten}
+use borrow.Author.Tests.{le-leb, lt-leb}
+use Rattle.words.specs.rules.Bits.{withField}
+use Rattle.words.specs.rules.Bytes.{byte, number, put, bytesAt, sizeOf, fits, fieldFits, written, fieldWritten}
 use Rattle.words.specs.declared.Unit.{Unit as UnitOf}
 use Rattle.words.specs.declared.Unit.the-variants.{One, Two, Four}
 use Rattle.words.proofs.Choice.{chosen, passed}

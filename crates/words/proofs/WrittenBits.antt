@@ -8,9 +8,9 @@ use native.Mathlib.Nat.{zero-div, add-assoc, add-sub-cancel-left}
 use native.Mathlib.Omega.{arith}
 use lib.ListN.{length, getD, take, drop}
 use lib.Seq.{getD-take, getD-drop}
-use Rattle.words.specs.Bits.{bit, withField, within}
-use Rattle.words.specs.Bytes.{byte, number, bytesAt, put, bitAt}
-use Rattle.words.specs.Choice.{pick}
+use Rattle.words.specs.rules.Bits.{bit, withField, within}
+use Rattle.words.specs.rules.Bytes.{byte, number, bytesAt, put, bitAt}
+use Rattle.words.specs.rules.Choice.{pick}
 use Rattle.words.proofs.Choice.{chosen, passed}
 use Rattle.words.proofs.Joins.{bit-shifted, bit-low, bit-join-low, bit-join-high}
 use Rattle.words.proofs.Puts.{put-inside, put-outside}

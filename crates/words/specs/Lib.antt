@@ -1,3 +1,1 @@
-pub mod Bits
-pub mod Bytes
-pub mod Choice
+pub mod rules

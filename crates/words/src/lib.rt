@@ -4,8 +4,8 @@ ghost use mathlib.Core.List.{[], _∷_};
 ghost use mathlib.Core.Bool.{true};
 ghost use Prim.Native.Nat.{_+_, _≤_, _<_, _^_};
 ghost use lib.ListN.{length, take, getD, set};
-ghost use Rattle.words.specs.Bits.{bit, join, withField};
-ghost use Rattle.words.specs.Bytes.{byte, number, put, sizeOf, fits, fieldFits, written, fieldWritten, wordAt};
+ghost use Rattle.words.specs.rules.Bits.{bit, join, withField};
+ghost use Rattle.words.specs.rules.Bytes.{byte, number, put, sizeOf, fits, fieldFits, written, fieldWritten, wordAt};
 
 // A unit of 1, 2 or 4 bytes.
 pub enum Unit {

@@ -4,12 +4,12 @@ use Prim.Native.Nat.{ℕ, _*_, _^_}
 use mathlib.Core.List.{List}
 use mathlib.Core.Path.{_≡_, refl, sym, ap, _∙_}
 use lib.ListN.{length}
-use Rattle.windows.specs.Window.{sumOf}
-use Rattle.script.specs.Answers.{numberOf}
-use Rattle.script.specs.declared.Refusal.{Refusal}
-use Rattle.watched.specs.Watched.{runEntries}
-use Rattle.feeding.specs.Numbers.{barred, placesIn}
-use Rattle.bench.specs.Runs.{reported}
+use Rattle.windows.specs.rules.Window.{sumOf}
+use Rattle.opcodes.specs.rules.Answers.{codeOf}
+use Rattle.opcodes.specs.declared.Refusal.{Refusal}
+use Rattle.bit_watch.specs.rules.Watched.{runEntries}
+use Rattle.bench.specs.rules.Numbers.{barred, placesIn}
+use Rattle.bench.specs.rules.Runs.{reported}
 use Rattle.bench.proofs.BitRuns.{noted, from-barred, from-run}
 use Rattle.bench.proofs.Laws.{run-at}
 use Rattle.bench.proofs.bits_from.Statement.{statement}
@@ -21,8 +21,8 @@ sum-requires c κs = search needs
 bar-requires : tie.Need-bar-requires
 bar-requires c κs = search needs
 
-number-requires : tie.Need-number-requires
-number-requires c κs = search needs
+code-requires : tie.Need-code-requires
+code-requires c κs = search needs
 
 refuse-run-requires : tie.Need-refuse-run-requires
 refuse-run-requires c κs = search needs
@@ -32,8 +32,8 @@ returns c =
     let a = c .before .before .before .before .before .before .before .before .before .before .args in
     let why : c .before .before .before .bar .result ≡ barred (a .opened .refusal) (a .choice) (length (a .numbers .now)) (length (a .memory .now)) (sumOf (a .opened .session .windows)) =
     c .before .before .before .bar .ensures ∙ ap (barred _ _ _ _) (c .before .before .before .before .sum .ensures) in
-    noted (from-barred (a .opened) (a .choice) (a .memory .now) (a .numbers .now) (a .image .now) (λ e. c .before .if1 .taken (c .before .before .number .ensures ∙ ap (λ (q : Refusal). numberOf q) why ∙ e)))
-    (c .refuse-run .ensures ∙ ap (λ (q : Refusal). numberOf q * 2 ^ 56) why, (refl, refl))
+    noted (from-barred (a .opened) (a .choice) (a .memory .now) (a .numbers .now) (a .image .now) (λ e. c .before .if1 .taken (c .before .before .code .ensures ∙ ap (λ (q : Refusal). codeOf q) why ∙ e)))
+    (c .refuse-run .ensures ∙ ap (λ (q : Refusal). codeOf q * 2 ^ 56) why, (refl, refl))
 
 clear-requires : tie.Need-clear-requires
 clear-requires c κs = search needs
@@ -58,7 +58,7 @@ returns-2 c =
     let a = c .before .before .before .before .before .before .before .before .before .before .before .before .before .before .before .before .before .before .before .before .before .before .before .args in
     let why : c .before .before .before .before .before .before .before .before .before .before .before .before .before .before .before .before .bar .result ≡ barred (a .opened .refusal) (a .choice) (length (a .numbers .now)) (length (a .memory .now)) (sumOf (a .opened .session .windows)) =
     c .before .before .before .before .before .before .before .before .before .before .before .before .before .before .before .before .bar .ensures ∙ ap (barred _ _ _ _) (c .before .before .before .before .before .before .before .before .before .before .before .before .before .before .before .before .before .sum .ensures) in
-    noted (from-run (a .opened) (a .choice) (a .memory .now) (a .numbers .now) (a .image .now) (sym (ap (λ (q : Refusal). numberOf q) why) ∙ sym (c .before .before .before .before .before .before .before .before .before .before .before .before .before .before .before .number .ensures) ∙ c .before .before .before .before .before .before .before .before .before .before .before .before .before .before .if1 .left)) (
+    noted (from-run (a .opened) (a .choice) (a .memory .now) (a .numbers .now) (a .image .now) (sym (ap (λ (q : Refusal). codeOf q) why) ∙ sym (c .before .before .before .before .before .before .before .before .before .before .before .before .before .before .before .code .ensures) ∙ c .before .before .before .before .before .before .before .before .before .before .before .before .before .before .if1 .left)) (
       c .report .ensures ∙ ap reported (c .before .before .before .before .before .run .ensures .0),
       (
         c .before .before .before .before .before .run .ensures .1 .0,
@@ -73,7 +73,7 @@ bits-from-spec =
     (tie.spec
     sum-requires
     bar-requires
-    number-requires
+    code-requires
     refuse-run-requires
     returns
     clear-requires

@@ -4,8 +4,8 @@ use mathlib.Core.Path.{sym, ap, _∙_}
 use denote.Ref.{now}
 use Rattle.words.proofs.Choice.{chosen, passed}
 use Rattle.words.proofs.Numbers.{from-place}
-use Rattle.bench.specs.Fetched.{fetchedReport}
-use Rattle.bench.specs.Runs.{reported}
+use Rattle.bench.specs.rules.Fetched.{fetchedReport}
+use Rattle.bench.specs.rules.Runs.{reported}
 use Rattle.bench.proofs.Laws.{ran-at}
 use Rattle.bench.proofs.run_image.Statement.{statement}
 use Rattle.bench.proofs.run_image.Tie as tie

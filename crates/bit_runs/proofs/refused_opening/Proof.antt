@@ -3,11 +3,11 @@ use borrow.Author.Needs.{needs}
 use Rattle.bit_runs.proofs.refused_opening.Statement.{statement}
 use Rattle.bit_runs.proofs.refused_opening.Tie as tie
 
-number-requires : tie.Need-number-requires
-number-requires c κs = search needs
+code-requires : tie.Need-code-requires
+code-requires c κs = search needs
 
 returns : tie.Need-returns
-returns c = rw (c .number .ensures)
+returns c = rw (c .code .ensures)
 
 pub refused-opening-spec : {M : Type 1} → statement M
-refused-opening-spec = tie.close (tie.spec number-requires returns)
+refused-opening-spec = tie.close (tie.spec code-requires returns)

@@ -6,14 +6,14 @@ use borrow.Author.Needs.{needs}
 use denote.Ref.{now}
 use Rattle.words.proofs.Choice.{chosen, passed}
 use Rattle.windows.specs.declared.Window.{Window}
-use Rattle.script.specs.Answers.{numberOf}
-use Rattle.script.specs.declared.Dialect.the-variants.{Am17xx}
-use Rattle.chosen.specs.Chosen.{choiceOf}
-use Rattle.chosen.specs.declared.Choice.{Choice}
-use Rattle.chosen.specs.declared.Chosen.{Chosen}
-use Rattle.flash.specs.Opening.{openedBy, numberingFrom}
+use Rattle.opcodes.specs.rules.Answers.{codeOf}
+use Rattle.opcodes.specs.declared.Dialect.the-variants.{Am17xx}
+use Rattle.bit_choice.specs.rules.Chosen.{choiceOf}
+use Rattle.bit_choice.specs.declared.Choice.{Choice}
+use Rattle.bit_choice.specs.declared.Chosen.{Chosen}
+use Rattle.flash.specs.rules.Opening.{openedBy, numberingFrom}
 use Rattle.flash.specs.declared.Opened.{Opened}
-use Rattle.bit_runs.specs.Runs.{openedTraced, openedMemory, openedNumbers, openedOffsets, traced, memoryLeft, numbersLeft, offsetsLeft}
+use Rattle.bit_runs.specs.rules.Runs.{openedTraced, openedMemory, openedNumbers, openedOffsets, traced, memoryLeft, numbersLeft, offsetsLeft}
 use Rattle.bit_runs.proofs.run.Statement.{statement}
 use Rattle.bit_runs.proofs.run.Tie as tie
 
@@ -23,8 +23,8 @@ check-windows-requires c κs = search needs
 choose-requires : tie.Need-choose-requires
 choose-requires c κs = search needs
 
-number-requires : tie.Need-number-requires
-number-requires c κs = search needs
+code-requires : tie.Need-code-requires
+code-requires c κs = search needs
 
 not-chosen-requires : tie.Need-not-chosen-requires
 not-chosen-requires c κs = search needs
@@ -34,7 +34,7 @@ unfolding traced memoryLeft numbersLeft offsetsLeft
 returns c =
     let a = c .before .before .before .before .before .before .before .before .before .before .args in
     let picked = c .before .before .before .choose .ensures ∙ ap (λ (ws : List Window). choiceOf ws (now (a .list))) (c .before .before .before .before .check-windows .ensures) in
-    let numbered = c .before .before .number .ensures ∙ ap (λ (x : Choice). numberOf (x .refusal)) picked in
+    let numbered = c .before .before .code .ensures ∙ ap (λ (x : Choice). codeOf (x .refusal)) picked in
     let never = ne-eqb _ _ (λ e. c .before .if1 .taken (numbered ∙ e)) in (
       c .not-chosen .ensures ∙ sym (passed _ _ _ never),
       (sym (passed _ _ _ never), (sym (passed _ _ _ never), sym (passed _ _ _ never))),
@@ -60,7 +60,7 @@ unfolding traced memoryLeft numbersLeft offsetsLeft
 returns-2 c =
     let a = c .before .before .before .before .before .before .before .before .before .before .before .before .before .before .before .before .before .before .before .before .before .args in
     let picked = c .before .before .before .before .before .before .before .before .before .before .before .before .before .before .choose .ensures ∙ ap (λ (ws : List Window). choiceOf ws (now (a .list))) (c .before .before .before .before .before .before .before .before .before .before .before .before .before .before .before .check-windows .ensures) in
-    let numbered = c .before .before .before .before .before .before .before .before .before .before .before .before .before .number .ensures ∙ ap (λ (x : Choice). numberOf (x .refusal)) picked in
+    let numbered = c .before .before .before .before .before .before .before .before .before .before .before .before .before .code .ensures ∙ ap (λ (x : Choice). codeOf (x .refusal)) picked in
     let taken = eq-eqb _ _ (sym numbered ∙ c .before .before .before .before .before .before .before .before .before .before .before .before .if1 .left) in
     let words = ap (λ (x : Choice). x .chosen) picked in
     let opened =
@@ -87,7 +87,7 @@ run-spec =
     (tie.spec
     check-windows-requires
     choose-requires
-    number-requires
+    code-requires
     not-chosen-requires
     returns
     open-numbering-requires

@@ -2,15 +2,14 @@
 use mathlib.Core.Path.{ap, sym, _∙_}
 use borrow.Author.Tests.{eq-eqb, ne-eqb}
 use borrow.Author.Needs.{needs}
-use denote.Ref.{now}
 use Rattle.words.proofs.Choice.{chosen, passed}
 use Rattle.flash.specs.declared.Called.{Called}
-use Rattle.bit_runs.specs.Runs.{ended, openedTraced, openedMemory, openedNumbers, openedOffsets}
+use Rattle.bit_runs.specs.rules.Runs.{ended, openedTraced, openedMemory, openedNumbers, openedOffsets}
 use Rattle.bit_runs.proofs.run_opened.Statement.{statement}
 use Rattle.bit_runs.proofs.run_opened.Tie as tie
 
-number-requires : tie.Need-number-requires
-number-requires c κs = search needs
+code-requires : tie.Need-code-requires
+code-requires c κs = search needs
 
 refused-opening-requires : tie.Need-refused-opening-requires
 refused-opening-requires c κs = search needs
@@ -18,7 +17,7 @@ refused-opening-requires c κs = search needs
 returns : tie.Need-returns
 unfolding openedTraced openedMemory openedNumbers openedOffsets
 returns c =
-    let never = ne-eqb _ _ (λ e. c .before .if1 .taken (c .before .before .number .ensures ∙ e)) in (
+    let never = ne-eqb _ _ (λ e. c .before .if1 .taken (c .before .before .code .ensures ∙ e)) in (
       c .refused-opening .ensures ∙ sym (passed _ _ _ never),
       (sym (passed _ _ _ never), (sym (passed _ _ _ never), sym (passed _ _ _ never))),
     )
@@ -46,7 +45,7 @@ unfolding openedTraced openedMemory openedNumbers openedOffsets
 returns-2 c =
     let a = c .before .before .before .before .before .before .before .before .before .before .before .before .before .before .before .before .before .before .before .before .args in
     let ran = c .before .before .before .before .before .before .before .trace-run in
-    let opens = eq-eqb _ _ (sym (c .before .before .before .before .before .before .before .before .before .before .before .before .before .before .before .number .ensures) ∙ c .before .before .before .before .before .before .before .before .before .before .before .before .before .before .if1 .left) in (
+    let opens = eq-eqb _ _ (sym (c .before .before .before .before .before .before .before .before .before .before .before .before .before .before .before .code .ensures) ∙ c .before .before .before .before .before .before .before .before .before .before .before .before .before .before .if1 .left) in (
       c .ended-by .ensures ∙ ap (λ (x : Called). ended x (a .chosen)) (ran .ensures .0) ∙ sym (chosen _ _ _ opens),
       (
         ran .ensures .1 .0 ∙ sym (chosen _ _ _ opens),
@@ -58,7 +57,7 @@ pub run-opened-spec : {M : Type 1} → statement M
 run-opened-spec =
     tie.close
     (tie.spec
-    number-requires
+    code-requires
     refused-opening-requires
     returns
     slice-aggregate-trace-run

@@ -4,9 +4,9 @@ use denote.Ref.{now}
 use lib.ListN.{take}
 use borrow.Author.Needs.{needs}
 use Rattle.commands.specs.declared.Wrote.{Wrote}
-use Rattle.stamps.specs.Stamps.{stamped}
+use Rattle.bit_stamps.specs.rules.Stamps.{stamped}
 use Rattle.flash.specs.declared.Called.{Called}
-use Rattle.bit_runs.specs.Runs.{offsetWrote}
+use Rattle.bit_runs.specs.rules.Runs.{offsetWrote}
 use Rattle.bit_runs.proofs.trace_call.Statement.{statement}
 use Rattle.bit_runs.proofs.trace_call.Tie as tie
 

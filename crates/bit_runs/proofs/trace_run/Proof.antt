@@ -7,12 +7,12 @@ use borrow.Author.Tests.{not-true, not-false}
 use denote.Ref.{now}
 use lib.ListN.{length, take}
 use borrow.Author.Needs.{needs}
-use Rattle.flash.specs.Step.{stepOf}
-use Rattle.runs.specs.Run.{carriedOn, runOf}
-use Rattle.runs.proofs.Calls as calls
-use Rattle.watched.specs.Watched.{numberWrote, entriesOn, runEntries}
-use Rattle.watched.proofs.Running.{stays, spent, passes, delivers}
-use Rattle.bit_runs.specs.Runs.{offsetWrote, offsetsOn, runOffsets}
+use Rattle.flash.specs.rules.Step.{stepOf}
+use Rattle.flash_runs.specs.rules.Run.{carriedOn, runOf}
+use Rattle.flash_runs.proofs.Calls as calls
+use Rattle.bit_watch.specs.rules.Watched.{numberWrote, entriesOn, runEntries}
+use Rattle.bit_watch.proofs.Running.{stays, spent, passes, delivers}
+use Rattle.bit_runs.specs.rules.Runs.{offsetWrote, offsetsOn, runOffsets}
 use Rattle.bit_runs.proofs.trace_run.Statement.{statement}
 use Rattle.bit_runs.proofs.trace_run.Tie as tie
 

@@ -1,6 +1,6 @@
 -- `checking::check` meets its contract: the image is opened, run and reported, as the definition says.
 use borrow.Author.Needs.{needs}
-use Rattle.checking.specs.Report.{reportOf}
+use Rattle.checking.specs.rules.Report.{reportOf}
 use Rattle.checking.proofs.check.Statement.{statement}
 use Rattle.checking.proofs.check.Tie as tie
 

@@ -2,7 +2,7 @@
 use mathlib.Core.Path.{refl}
 use native.Mathlib.Omega.{arith}
 use borrow.Author.Tests.{le-leb, lt-leb}
-use Rattle.checking.specs.Limit.{small, digit}
+use Rattle.checking.specs.rules.Limit.{small, digit}
 use Rattle.checking.proofs.goes_on.Statement.{statement}
 use Rattle.checking.proofs.goes_on.Tie as tie
 

@@ -3,7 +3,7 @@ use borrow.Author.Needs.{needs}
 use mathlib.Core.Path.{sym}
 use borrow.Author.Tests.{le-leb, lt-leb}
 use Rattle.words.proofs.Choice.{chosen, passed}
-use Rattle.checking.specs.Limit.{small, limitFrom}
+use Rattle.checking.specs.rules.Limit.{small, limitFrom}
 use Rattle.checking.proofs.limit_at.Statement.{statement}
 use Rattle.checking.proofs.limit_at.Tie as tie
 

@@ -6,7 +6,7 @@ use native.Mathlib.Omega.{arith}
 use borrow.Author.Tests.{not-true, not-false}
 use denote.Ref.{now}
 use lib.ListN.{length, drop}
-use Rattle.checking.specs.Limit.{limitFrom}
+use Rattle.checking.specs.rules.Limit.{limitFrom}
 use Rattle.checking.proofs.Limits.{some, none, facts, at-end, turn, stops}
 use Rattle.checking.proofs.limit_of.Statement.{statement}
 use Rattle.checking.proofs.limit_of.Tie as tie

@@ -1,19 +1,19 @@
--- The bits that are left lead from the register reached to the same end.
+-- The bits that are left lead from the checksum reached to the same end.
 use Prim.Native.Nat.{suc, _-_, _≤_}
 use mathlib.Core.Path.{_≡_}
 use native.Mathlib.Omega.{arith}
 use borrow.Author.Needs.{needs}
-use Rattle.words.specs.Bits.{bit}
-use Rattle.checksum.specs.Checksum.{fed}
+use Rattle.words.specs.rules.Bits.{bit}
+use Rattle.checksum.specs.rules.Checksum.{fed}
 use Rattle.checksum.proofs.feed_low.Statement.{statement}
 use Rattle.checksum.proofs.feed_low.Tie as tie
 
 abbrev Inv-loop : tie.InvT-loop
-Inv-loop register value count reached₀ left₀ reached left =
-    (left ≤ 32) × (fed reached value left ≡ fed register value count)
+Inv-loop checksum value count reached₀ left₀ reached left =
+    (left ≤ 32) × (fed reached value left ≡ fed checksum value count)
 
 abbrev μ-loop : tie.MeasureT-loop
-μ-loop register value count reached₀ left₀ reached left = left
+μ-loop checksum value count reached₀ left₀ reached left = left
 
 loop-holds : tie.Need-loop-holds Inv-loop μ-loop
 loop-holds c = search needs

@@ -1,7 +1,7 @@
 -- `commands::bar` meets its contract: each arm is one case of the definition.
 use borrow.Author.Needs.{needs}
 use mathlib.Core.Path.{sym, ap, _∙_}
-use Rattle.commands.specs.Commands.{barred}
+use Rattle.commands.specs.rules.Commands.{barred}
 use Rattle.commands.specs.declared.Judged.{Judged}
 use Rattle.commands.proofs.bar.Statement.{statement}
 use Rattle.commands.proofs.bar.Tie as tie

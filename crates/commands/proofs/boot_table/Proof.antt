@@ -2,7 +2,7 @@
 use borrow.Author.Needs.{needs}
 use mathlib.Core.Path.{sym, ap, _∙_}
 use denote.Ref.{now}
-use Rattle.commands.specs.Commands.{settingDone, settingMemory}
+use Rattle.commands.specs.rules.Commands.{settingDone, settingMemory}
 use Rattle.commands.specs.declared.Judged.{Judged}
 use Rattle.commands.proofs.boot_table.Statement.{statement}
 use Rattle.commands.proofs.boot_table.Tie as tie
@@ -27,7 +27,7 @@ unfolding settingDone settingMemory
 returns c =
     let a = c .before .before .before .before .before .before .before .before .before .args in
     let granted = c .before .before .before .before .before .before .judged .given .1 in (
-      sym (ap (λ (j : Judged). settingDone j (a .register) (a .delay)) granted),
+      sym (ap (λ (j : Judged). settingDone j (a .checksum) (a .delay)) granted),
       rw (c .before .before .before .shape-of .ensures) at (c .before .before .set-shape .ensures)
           ∙ sym (ap (λ (j : Judged). settingMemory j (now (a .memory)) (a .word) (a .value)) granted),
     )
@@ -37,7 +37,7 @@ unfolding settingDone settingMemory
 returns-2 c =
     let a = c .before .before .before .before .args in
     let refused = c .before .judged2 .given .1 in (
-      sym (ap (λ (j : Judged). settingDone j (a .register) (a .delay)) refused),
+      sym (ap (λ (j : Judged). settingDone j (a .checksum) (a .delay)) refused),
       sym (ap (λ (j : Judged). settingMemory j (now (a .memory)) (a .word) (a .value)) refused),
     )
 

@@ -2,12 +2,12 @@
 use Prim.Native.Nat.{ℕ, _-_, _≤_, min}
 use mathlib.Core.Path.{_≡_, sym, ap, _∙_}
 use lib.ListN.{length, getD}
-use Rattle.words.specs.Bytes.{put}
+use Rattle.words.specs.rules.Bytes.{put}
 use borrow.Author.Needs.{needs}
 use native.Mathlib.Omega.{arith}
 use denote.Ref.{now}
 use Rattle.words.proofs.Puts.{length-put, put-more, put-past, put-clamped}
-use Rattle.commands.specs.Commands.{loaded}
+use Rattle.commands.specs.rules.Commands.{loaded}
 use Rattle.commands.proofs.copy.Statement.{statement}
 use Rattle.commands.proofs.copy.Tie as tie
 

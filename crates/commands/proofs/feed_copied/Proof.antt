@@ -7,7 +7,7 @@ use native.Mathlib.Omega.{arith}
 use borrow.Author.Tests.{leb-true}
 use denote.Ref.{now}
 use lib.ListN.{length, take, drop}
-use Rattle.words.specs.Bytes.{bytesAt}
+use Rattle.words.specs.rules.Bytes.{bytesAt}
 use Rattle.commands.proofs.feed_copied.Statement.{statement}
 use Rattle.commands.proofs.feed_copied.Tie as tie
 

@@ -1,23 +1,23 @@
--- `commands::feed_data` meets its contract: the words that are left lead from the register reached to the same end.
+-- `commands::feed_data` meets its contract: the words that are left lead from the checksum reached to the same end.
 use Prim.Native.Nat.{ℕ, _+_, _-_, _/_, _*_, min}
 use mathlib.Core.Path.{_≡_, refl, sym, ap, ap₂, _∙_}
 use lib.ListN.{length, drop, take}
-use Rattle.commands.specs.Commands.{wordsFed}
+use Rattle.commands.specs.rules.Commands.{wordsFed}
 use borrow.Author.Needs.{needs}
 use native.Mathlib.Nat.{sub-zero}
 use denote.Ref.{now}
-use Rattle.words.specs.Bytes.{number}
+use Rattle.words.specs.rules.Bytes.{number}
 use Rattle.words.proofs.Numbers.{from-place}
-use Rattle.checksum.specs.Checksum.{fed}
+use Rattle.checksum.specs.rules.Checksum.{fed}
 use Rattle.commands.proofs.Feeding.{next-word, no-word}
 use Rattle.commands.proofs.feed_data.Statement.{statement}
 use Rattle.commands.proofs.feed_data.Tie as tie
 
 abbrev Inv-loop : tie.InvT-loop
-Inv-loop register bytes reached₀ at₀ reached at = wordsFed reached ((length bytes - at + 3) / 4) (drop at bytes) ≡ wordsFed register ((length bytes + 3) / 4) bytes
+Inv-loop checksum bytes reached₀ at₀ reached at = wordsFed reached ((length bytes - at + 3) / 4) (drop at bytes) ≡ wordsFed checksum ((length bytes + 3) / 4) bytes
 
 abbrev μ-loop : tie.MeasureT-loop
-μ-loop register bytes reached₀ at₀ reached at = length bytes - at
+μ-loop checksum bytes reached₀ at₀ reached at = length bytes - at
 
 loop-holds : tie.Need-loop-holds Inv-loop μ-loop
 loop-holds c = rw sub-zero refl

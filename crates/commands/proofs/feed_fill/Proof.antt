@@ -2,7 +2,7 @@
 use borrow.Author.Needs.{needs}
 use mathlib.Core.Path.{sym}
 use Rattle.words.proofs.Choice.{chosen, passed}
-use Rattle.checksum.specs.Checksum.{fedWords}
+use Rattle.checksum.specs.rules.Checksum.{fedWords}
 use Rattle.commands.proofs.feed_fill.Statement.{statement}
 use Rattle.commands.proofs.feed_fill.Tie as tie
 

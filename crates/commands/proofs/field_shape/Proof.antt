@@ -5,7 +5,7 @@ use mathlib.Core.Path.{sym, ap, ap₂, _∙_}
 use lib.Dec.{leb}
 use borrow.Author.Tests.{le-leb, lt-leb}
 use Rattle.words.proofs.Choice.{chosen, passed}
-use Rattle.commands.specs.Commands.{fieldShape}
+use Rattle.commands.specs.rules.Commands.{fieldShape}
 use Rattle.commands.proofs.field_shape.Statement.{statement}
 use Rattle.commands.proofs.field_shape.Tie as tie
 

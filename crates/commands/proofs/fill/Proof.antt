@@ -1,6 +1,6 @@
 -- `commands::fill` meets its contract: the type's unit is found, the range filled where it is granted, and the answer is the definition's.
 use borrow.Author.Needs.{needs}
-use Rattle.commands.specs.Commands.{fillDone, fillMemory}
+use Rattle.commands.specs.rules.Commands.{fillDone, fillMemory}
 use Rattle.commands.proofs.fill.Statement.{statement}
 use Rattle.commands.proofs.fill.Tie as tie
 

@@ -4,7 +4,7 @@ use mathlib.Core.Path.{sym, _∙_}
 use native.Mathlib.Omega.{arith}
 use denote.Ref.{now}
 use Rattle.words.proofs.Puts.{put-past}
-use Rattle.commands.specs.Commands.{filled}
+use Rattle.commands.specs.rules.Commands.{filled}
 use Rattle.commands.proofs.Filling.{filled-whole}
 use Rattle.commands.proofs.fill_bytes.Statement.{statement}
 use Rattle.commands.proofs.fill_bytes.Tie as tie

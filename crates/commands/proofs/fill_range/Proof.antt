@@ -2,7 +2,7 @@
 use borrow.Author.Needs.{needs}
 use mathlib.Core.Path.{sym, ap₂, _∙_}
 use denote.Ref.{now}
-use Rattle.commands.specs.Commands.{memoryIf, typeFilled}
+use Rattle.commands.specs.rules.Commands.{memoryIf, typeFilled}
 use Rattle.commands.specs.declared.Judged.{Judged}
 use Rattle.commands.specs.declared.UnitType.{UnitType}
 use Rattle.commands.proofs.fill_range.Statement.{statement}

@@ -4,10 +4,10 @@ use Prim.Native.Nat.{_-_, _*_, _≤_}
 use mathlib.Core.Path.{_≡_}
 use native.Mathlib.Omega.{arith}
 use denote.Ref.{now}
-use Rattle.words.specs.Bytes.{put}
+use Rattle.words.specs.rules.Bytes.{put}
 use Rattle.words.specs.declared.Unit.the-variants.{Four}
 use Rattle.words.proofs.Puts.{length-put}
-use Rattle.commands.specs.Commands.{filled}
+use Rattle.commands.specs.rules.Commands.{filled}
 use Rattle.commands.proofs.Filling.{filled-word}
 use Rattle.commands.proofs.fill_words.Statement.{statement}
 use Rattle.commands.proofs.fill_words.Tie as tie

@@ -1,8 +1,8 @@
 -- `commands::judge_entry` meets its contract: the address is tested first, then each arm is one case of where it lies.
 use borrow.Author.Needs.{needs}
 use mathlib.Core.Path.{sym, ap, _∙_}
-use Rattle.script.specs.declared.Refusal.the-variants.{Entry}
-use Rattle.commands.specs.Commands.{placed}
+use Rattle.opcodes.specs.declared.Refusal.the-variants.{Entry}
+use Rattle.commands.specs.rules.Commands.{placed}
 use Rattle.commands.proofs.Judging.{entry-unaligned, entry-placed}
 use Rattle.commands.proofs.judge_entry.Statement.{statement}
 use Rattle.commands.proofs.judge_entry.Tie as tie

@@ -1,6 +1,6 @@
 -- `commands::judge_fill` meets its contract: the type's unit is found, and judged.
 use borrow.Author.Needs.{needs}
-use Rattle.commands.specs.Commands.{fillJudged}
+use Rattle.commands.specs.rules.Commands.{fillJudged}
 use Rattle.commands.proofs.judge_fill.Statement.{statement}
 use Rattle.commands.proofs.judge_fill.Tie as tie
 

@@ -1,8 +1,8 @@
 -- `commands::judge_range` meets its contract: each arm is one case of where the range lies.
 use borrow.Author.Needs.{needs}
 use mathlib.Core.Path.{sym, ap, _∙_}
-use Rattle.script.specs.declared.Refusal.the-variants.{Range}
-use Rattle.commands.specs.Commands.{placed, rangeJudged}
+use Rattle.opcodes.specs.declared.Refusal.the-variants.{Range}
+use Rattle.commands.specs.rules.Commands.{placed, rangeJudged}
 use Rattle.commands.proofs.judge_range.Statement.{statement}
 use Rattle.commands.proofs.judge_range.Tie as tie
 

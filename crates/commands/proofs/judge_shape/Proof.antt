@@ -2,7 +2,7 @@
 use borrow.Author.Needs.{needs}
 use mathlib.Core.Logic.{⊎-elim}
 use mathlib.Core.Path.{sym, ap, _∙_}
-use Rattle.commands.specs.Commands.{shapeJudged}
+use Rattle.commands.specs.rules.Commands.{shapeJudged}
 use Rattle.commands.specs.declared.Shape.{Shape}
 use Rattle.commands.proofs.Judging.{shape-too-wide, shape-fits, shape-whole}
 use Rattle.commands.proofs.judge_shape.Statement.{statement}

@@ -1,7 +1,7 @@
 -- `commands::judge_type` meets its contract: each arm is one case of the definition.
 use borrow.Author.Needs.{needs}
 use mathlib.Core.Path.{sym, ap, _∙_}
-use Rattle.commands.specs.Commands.{typeJudged}
+use Rattle.commands.specs.rules.Commands.{typeJudged}
 use Rattle.commands.specs.declared.UnitType.{UnitType}
 use Rattle.commands.proofs.judge_type.Statement.{statement}
 use Rattle.commands.proofs.judge_type.Tie as tie

@@ -1,6 +1,6 @@
 -- `commands::jump_and_close` meets its contract: the answer is the definition's.
 use borrow.Author.Needs.{needs}
-use Rattle.commands.specs.Commands.{closeDone}
+use Rattle.commands.specs.rules.Commands.{closeDone}
 use Rattle.commands.proofs.jump_and_close.Statement.{statement}
 use Rattle.commands.proofs.jump_and_close.Tie as tie
 

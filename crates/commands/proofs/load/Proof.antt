@@ -1,5 +1,5 @@
 -- `commands::load` meets its contract: the bytes are copied, and while the checksum is on address, size and data are fed in this order. The data are then
--- at their place. Of the size the register takes the low 32 bits.
+-- at their place. Of the size the checksum takes the low 32 bits.
 use borrow.Author.Needs.{needs}
 use Prim.Native.Nat.{ℕ, _+_, _/_}
 use mathlib.Core.Path.{sym, ap, _∙_}
@@ -7,10 +7,10 @@ use native.Mathlib.Nat.{le-refl}
 use lib.ListN.{length}
 use denote.Ref.{now}
 use Rattle.words.proofs.Choice.{chosen, passed}
-use Rattle.checksum.specs.Checksum.{fed, fedWords}
+use Rattle.checksum.specs.rules.Checksum.{fed, fedWords}
 use Rattle.checksum.proofs.Laws.{fed-low}
 use native.Mathlib.Omega.{arith}
-use Rattle.commands.specs.Commands.{wordsFed, loadFed}
+use Rattle.commands.specs.rules.Commands.{wordsFed, loadFed}
 use Rattle.commands.proofs.Loading.{loaded-there}
 use Rattle.commands.proofs.load.Statement.{statement}
 use Rattle.commands.proofs.load.Tie as tie

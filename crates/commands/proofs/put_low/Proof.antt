@@ -8,7 +8,7 @@ use lib.Dec.{lit≤}
 use lib.ListN.{take}
 use lib.Seq.{length-take-le}
 use denote.Ref.{now}
-use Rattle.commands.specs.Commands.{loaded}
+use Rattle.commands.specs.rules.Commands.{loaded}
 use Rattle.commands.proofs.Filling.{low-loaded}
 use Rattle.commands.proofs.put_low.Statement.{statement}
 use Rattle.commands.proofs.put_low.Tie as tie

@@ -2,7 +2,7 @@
 use borrow.Author.Needs.{needs}
 use mathlib.Core.Path.{sym, ap, _∙_}
 use denote.Ref.{now}
-use Rattle.commands.specs.Commands.{shapeSet}
+use Rattle.commands.specs.rules.Commands.{shapeSet}
 use Rattle.commands.specs.declared.Shape.{Shape}
 use Rattle.commands.proofs.set_shape.Statement.{statement}
 use Rattle.commands.proofs.set_shape.Tie as tie

@@ -6,7 +6,7 @@ use native.Mathlib.Omega.{arith}
 use lib.Dec.{lit<}
 use lib.Pow.{pow-mono, shl-exact}
 use borrow.Author.Tests.{lt-leb}
-use Rattle.commands.specs.Commands.{tooWide}
+use Rattle.commands.specs.rules.Commands.{tooWide}
 use Rattle.commands.proofs.too_wide.Statement.{statement}
 use Rattle.commands.proofs.too_wide.Tie as tie
 

@@ -4,7 +4,7 @@ use Prim.Native.Nat.{ℕ}
 use mathlib.Core.Path.{sym, ap, ap₂, _∙_}
 use borrow.Author.Tests.{le-leb, lt-leb}
 use Rattle.words.proofs.Choice.{chosen, passed}
-use Rattle.commands.specs.Commands.{fieldShape, typeShape}
+use Rattle.commands.specs.rules.Commands.{fieldShape, typeShape}
 use Rattle.commands.specs.declared.UnitType.{UnitType}
 use Rattle.commands.proofs.type_shape.Statement.{statement}
 use Rattle.commands.proofs.type_shape.Tie as tie

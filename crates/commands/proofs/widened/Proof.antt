@@ -2,7 +2,7 @@
 use borrow.Author.Needs.{needs}
 use native.Mathlib.Omega.{arith}
 use lib.Dec.{lit<}
-use Rattle.words.specs.Bits.{join}
+use Rattle.words.specs.rules.Bits.{join}
 use Rattle.commands.proofs.Filling.{copies, copies-round}
 use Rattle.commands.proofs.widened.Statement.{statement}
 use Rattle.commands.proofs.widened.Tie as tie

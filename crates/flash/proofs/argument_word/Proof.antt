@@ -1,6 +1,6 @@
 -- `flash::argument_word` meets its contract: it reads the word at the place that the definition names.
 use borrow.Author.Needs.{needs}
-use Rattle.flash.specs.Step.{argument}
+use Rattle.flash.specs.rules.Step.{argument}
 use Rattle.flash.proofs.argument_word.Statement.{statement}
 use Rattle.flash.proofs.argument_word.Tie as tie
 

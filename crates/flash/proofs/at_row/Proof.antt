@@ -3,10 +3,10 @@ use borrow.Author.Needs.{needs}
 use mathlib.Core.Path.{sym, ap, _∙_}
 use native.Mathlib.Omega.{arith}
 use denote.Ref.{now}
-use Rattle.flash.specs.Sessions.{Outcome}
-use Rattle.flash.specs.Step.{wordsFrom, atRow}
+use Rattle.flash.specs.rules.Sessions.{CallOutcome}
+use Rattle.flash.specs.rules.Step.{wordsFrom, atRow}
 use Rattle.flash.proofs.Cases.{row-short, row-whole}
-use Rattle.script.specs.declared.Found.{Found}
+use Rattle.opcodes.specs.declared.Found.{Found}
 use Rattle.flash.proofs.at_row.Statement.{statement}
 use Rattle.flash.proofs.at_row.Tie as tie
 
@@ -66,7 +66,7 @@ unfolding wordsFrom
 returns c =
     let a = c .before .before .before .before .before .before .before .before .before .args in
     let short = row-short (a .session) (now (a .memory)) (now (a .image)) (c .before .before .before .before .before .found .given .1) (c .before .before .if1 .taken) in
-    (rw (c .halt3 .ensures, c .before .fetch3 .ensures) (sym (ap (λ (o : Outcome). o .answer) short)), sym (ap (λ (o : Outcome). o .memory) short))
+    (rw (c .halt3 .ensures, c .before .fetch3 .ensures) (sym (ap (λ (o : CallOutcome). o .answer) short)), sym (ap (λ (o : CallOutcome). o .memory) short))
 
 add-fetch-2 : tie.Need-add-fetch-2
 add-fetch-2 c = search needs
@@ -81,13 +81,13 @@ returns-2 : tie.Need-returns-2
 returns-2 c =
     let a = c .before .before .before .before .before .before .args in
     let row = ap (λ (f : Found). atRow (a .session) (now (a .memory)) (now (a .image)) f) (c .before .before .enum-told .given .1) in
-    (rw (c .halt .ensures, c .before .fetch .ensures) (sym (ap (λ (o : Outcome). o .answer) row)), sym (ap (λ (o : Outcome). o .memory) row))
+    (rw (c .halt .ensures, c .before .fetch .ensures) (sym (ap (λ (o : CallOutcome). o .answer) row)), sym (ap (λ (o : CallOutcome). o .memory) row))
 
 returns-3 : tie.Need-returns-3
 returns-3 c =
     let a = c .before .before .before .before .before .before .args in
     let row = ap (λ (f : Found). atRow (a .session) (now (a .memory)) (now (a .image)) f) (c .before .before .enum-told2 .given .1) in
-    (rw (c .halt2 .ensures, c .before .fetch2 .ensures) (sym (ap (λ (o : Outcome). o .answer) row)), sym (ap (λ (o : Outcome). o .memory) row))
+    (rw (c .halt2 .ensures, c .before .fetch2 .ensures) (sym (ap (λ (o : CallOutcome). o .answer) row)), sym (ap (λ (o : CallOutcome). o .memory) row))
 
 same-length : tie.Need-same-length
 same-length c = search needs
@@ -97,7 +97,7 @@ returns-4 c =
     let a = c .before .before .before .before .before .before .before .before .before .before .before .before .args in
     let whole = row-whole (a .session) (now (a .memory)) (now (a .image)) (c .before .before .before .before .before .before .before .before .found .given .1) (c .before .before .before .before .before .if1 .left) in
     let done = rw (c .before .before .before .before .fetch4 .ensures) at (c .before .before .perform .ensures) in
-    (done .0 ∙ sym (ap (λ (o : Outcome). o .answer) whole), done .1 ∙ sym (ap (λ (o : Outcome). o .memory) whole))
+    (done .0 ∙ sym (ap (λ (o : CallOutcome). o .answer) whole), done .1 ∙ sym (ap (λ (o : CallOutcome). o .memory) whole))
 
 pub at-row-spec : {M : Type 1} → statement M
 at-row-spec =

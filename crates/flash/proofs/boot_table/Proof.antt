@@ -2,8 +2,8 @@
 use borrow.Author.Needs.{needs}
 use mathlib.Core.Path.{ap, _∙_}
 use denote.Ref.{now}
-use Rattle.flash.specs.Sessions.{Outcome}
-use Rattle.flash.specs.Step.{outOfNumbers}
+use Rattle.flash.specs.rules.Sessions.{CallOutcome}
+use Rattle.flash.specs.rules.Step.{outOfNumbers}
 use Rattle.flash.proofs.Cases.{setting-read}
 use Rattle.flash.proofs.boot_table.Statement.{statement}
 use Rattle.flash.proofs.boot_table.Tie as tie
@@ -43,8 +43,8 @@ returns c = let a = c .before .before .before .before .before .before .before .b
     let judged = c .before .before .before .before .before .before .before .out-of-numbers .ensures ∙ ap (outOfNumbers (a .session)) (c .before .before .before .before .before .before .before .before .judge-setting .ensures) in
     let read = setting-read (a .session) (now (a .memory)) (now (a .image)) (c .before .before .before .before .before .before .before .before .before .before .before .before .before .argument-word .ensures) (c .before .before .before .before .before .before .before .before .before .before .before .before .argument-word2 .ensures)
     (c .before .before .before .before .before .before .before .before .before .before .before .argument-word3 .ensures) (c .before .before .before .before .before .before .before .before .before .before .argument-word4 .ensures) judged in (
-      rw (c .finish .ensures, c .before .wrote-setting .ensures, c .before .before .before .before .before .boot-table .ensures .0) (ap (λ (o : Outcome). o .answer) read),
-      c .before .before .before .before .before .boot-table .ensures .1 ∙ ap (λ (o : Outcome). o .memory) read,
+      rw (c .finish .ensures, c .before .wrote-setting .ensures, c .before .before .before .before .before .boot-table .ensures .0) (ap (λ (o : CallOutcome). o .answer) read),
+      c .before .before .before .before .before .boot-table .ensures .1 ∙ ap (λ (o : CallOutcome). o .memory) read,
     )
 
 pub boot-table-spec : {M : Type 1} → statement M

@@ -1,7 +1,7 @@
 -- `flash::count_on` meets its contract: the words are added where 32 bits hold the sum, else the count is the largest number.
 use borrow.Author.Needs.{needs}
 use native.Mathlib.Omega.{arith}
-use Rattle.flash.specs.Sessions.{countedOn}
+use Rattle.flash.specs.rules.Sessions.{countedOn}
 use Rattle.flash.proofs.count_on.Statement.{statement}
 use Rattle.flash.proofs.count_on.Tie as tie
 

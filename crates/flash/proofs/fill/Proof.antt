@@ -3,8 +3,8 @@ use borrow.Author.Needs.{needs}
 use mathlib.Core.Path.{ap, _∙_}
 use native.Mathlib.Omega.{arith}
 use denote.Ref.{now}
-use Rattle.flash.specs.Sessions.{Outcome}
-use Rattle.flash.specs.Step.{overflowing, outOfNumbers}
+use Rattle.flash.specs.rules.Sessions.{CallOutcome}
+use Rattle.flash.specs.rules.Step.{overflowing, outOfNumbers}
 use Rattle.flash.proofs.Cases.{fill-read}
 use Rattle.flash.proofs.fill.Statement.{statement}
 use Rattle.flash.proofs.fill.Tie as tie
@@ -48,8 +48,8 @@ returns c = let a = c .before .before .before .before .before .before .before .b
     let judged = c .before .before .before .before .before .before .before .out-of-numbers .ensures ∙ ap (outOfNumbers (a .session)) fits in
     let read = fill-read (a .session) (now (a .memory)) (now (a .image)) (c .before .before .before .before .before .before .before .before .before .before .before .before .before .before .argument-word .ensures) (c .before .before .before .before .before .before .before .before .before .before .before .before .before .argument-word2 .ensures)
     (c .before .before .before .before .before .before .before .before .before .before .before .before .argument-word3 .ensures) (c .before .before .before .before .before .before .before .before .before .before .before .argument-word4 .ensures) judged in (
-      rw (c .finish .ensures, c .before .wrote-bytes .ensures, c .before .before .before .before .before .fill .ensures .0) (ap (λ (o : Outcome). o .answer) read),
-      c .before .before .before .before .before .fill .ensures .1 ∙ ap (λ (o : Outcome). o .memory) read,
+      rw (c .finish .ensures, c .before .wrote-bytes .ensures, c .before .before .before .before .before .fill .ensures .0) (ap (λ (o : CallOutcome). o .answer) read),
+      c .before .before .before .before .before .fill .ensures .1 ∙ ap (λ (o : CallOutcome). o .memory) read,
     )
 
 pub fill-spec : {M : Type 1} → statement M

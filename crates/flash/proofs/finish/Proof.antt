@@ -3,15 +3,15 @@ use borrow.Author.Needs.{needs}
 use mathlib.Core.Path.{sym, _∙_}
 use borrow.Author.Tests.{eq-eqb, ne-eqb}
 use Rattle.words.proofs.Choice.{chosen, passed}
-use Rattle.flash.specs.Step.{after}
+use Rattle.flash.specs.rules.Step.{after}
 use Rattle.flash.proofs.finish.Statement.{statement}
 use Rattle.flash.proofs.finish.Tie as tie
 
 event-anew-requires : tie.Need-event-anew-requires
 event-anew-requires c κs = search needs
 
-number-requires : tie.Need-number-requires
-number-requires c κs = search needs
+code-requires : tie.Need-code-requires
+code-requires c κs = search needs
 
 mul-offset : tie.Need-mul-offset
 mul-offset c = search needs
@@ -28,21 +28,21 @@ proceed-requires c κs = search needs
 returns : tie.Need-returns
 unfolding after
 returns c = rw (c .proceed .ensures, c .before .moved .ensures, c .before .before .before .before .before .event-anew .ensures)
-    (sym (chosen _ _ _ (eq-eqb _ _ (sym (c .before .before .before .before .number .ensures) ∙ c .before .before .before .if1 .taken))))
+    (sym (chosen _ _ _ (eq-eqb _ _ (sym (c .before .before .before .before .code .ensures) ∙ c .before .before .before .if1 .taken))))
 
 halt-requires : tie.Need-halt-requires
 halt-requires c κs = search needs
 
 returns-2 : tie.Need-returns-2
 unfolding after
-returns-2 c = c .halt .ensures ∙ sym (passed _ _ _ (ne-eqb _ _ (rw (c .before .before .number .ensures) at (c .before .if1 .left))))
+returns-2 c = c .halt .ensures ∙ sym (passed _ _ _ (ne-eqb _ _ (rw (c .before .before .code .ensures) at (c .before .if1 .left))))
 
 pub finish-spec : {M : Type 1} → statement M
 finish-spec =
     tie.close
     (tie.spec
     event-anew-requires
-    number-requires
+    code-requires
     mul-offset
     add-offset
     moved-requires

@@ -1,8 +1,8 @@
 -- `flash::is_length` meets its contract: its tests are those of the definition.
 use mathlib.Core.Bool.{and-false}
 use borrow.Author.Tests.{le-leb, lt-leb, eq-eqb, ne-eqb}
-use Rattle.commands.specs.Commands.{multiple}
-use Rattle.flash.specs.Opening.{goodLength}
+use Rattle.commands.specs.rules.Commands.{multiple}
+use Rattle.flash.specs.rules.Opening.{goodLength}
 use Rattle.flash.proofs.is_length.Statement.{statement}
 use Rattle.flash.proofs.is_length.Tie as tie
 

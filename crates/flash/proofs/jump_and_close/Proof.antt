@@ -3,9 +3,9 @@ use borrow.Author.Needs.{needs}
 use Prim.Native.Nat.{_≤_}
 use native.Mathlib.Omega.{arith}
 use lib.Dec.{lit≤}
-use Rattle.script.specs.declared.Dialect.{Dialect}
-use Rattle.script.specs.declared.Dialect.the-variants.{Am17xx, Dm648}
-use Rattle.flash.specs.Step.{closeWords}
+use Rattle.opcodes.specs.declared.Dialect.{Dialect}
+use Rattle.opcodes.specs.declared.Dialect.the-variants.{Am17xx, Dm648}
+use Rattle.flash.specs.rules.Step.{closeWords}
 use Rattle.flash.proofs.jump_and_close.Statement.{statement}
 use Rattle.flash.proofs.jump_and_close.Tie as tie
 

@@ -2,8 +2,8 @@
 use borrow.Author.Needs.{needs}
 use mathlib.Core.Path.{sym, ap, _∙_}
 use denote.Ref.{now}
-use Rattle.flash.specs.Sessions.{Outcome}
-use Rattle.flash.specs.Step.{overflowing}
+use Rattle.flash.specs.rules.Sessions.{CallOutcome}
+use Rattle.flash.specs.rules.Step.{overflowing}
 use Rattle.commands.specs.declared.Judged.{Judged}
 use Rattle.flash.proofs.Cases.{load-read}
 use Rattle.flash.proofs.load.Statement.{statement}
@@ -40,13 +40,13 @@ returns : tie.Need-returns
 returns c = let a = c .before .before .before .before .before .before .before .before .before .before .before .before .before .before .args in
     let judged = sym (c .before .before .before .before .before .judged .given .1) ∙ c .before .before .before .before .before .before .before .overflow .ensures ∙ ap (λ (j : Judged). overflowing (a .session) (c .before .before .before .before .before .before .before .before .before .before .argument-word2 .result) j) (c .before .before .before .before .before .before .before .before .judge-load .ensures) in
     let read = load-read (a .session) (now (a .memory)) (now (a .image)) (c .before .before .before .before .before .before .before .before .before .before .before .argument-word .ensures) (c .before .before .before .before .before .before .before .before .before .before .argument-word2 .ensures) judged in
-    (c .before .before .load-at .ensures .0 ∙ ap (λ (o : Outcome). o .answer) read, c .before .before .load-at .ensures .1 ∙ ap (λ (o : Outcome). o .memory) read)
+    (c .before .before .load-at .ensures .0 ∙ ap (λ (o : CallOutcome). o .answer) read, c .before .before .load-at .ensures .1 ∙ ap (λ (o : CallOutcome). o .memory) read)
 
 returns-2 : tie.Need-returns-2
 returns-2 c = let a = c .before .before .before .before .before .before .before .before .before .before .before .args in
     let judged = sym (c .before .before .judged2 .given .1) ∙ c .before .before .before .before .overflow .ensures ∙ ap (λ (j : Judged). overflowing (a .session) (c .before .before .before .before .before .before .before .argument-word2 .result) j) (c .before .before .before .before .before .judge-load .ensures) in
     let read = load-read (a .session) (now (a .memory)) (now (a .image)) (c .before .before .before .before .before .before .before .before .argument-word .ensures) (c .before .before .before .before .before .before .before .argument-word2 .ensures) judged in
-    (c .halt .ensures ∙ ap (λ (o : Outcome). o .answer) read, ap (λ (o : Outcome). o .memory) read)
+    (c .halt .ensures ∙ ap (λ (o : CallOutcome). o .answer) read, ap (λ (o : CallOutcome). o .memory) read)
 
 pub load-spec : {M : Type 1} → statement M
 load-spec =

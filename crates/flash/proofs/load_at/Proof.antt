@@ -7,8 +7,8 @@ use native.Mathlib.Nat.{add-sub-cancel-left}
 use native.Mathlib.Omega.{arith}
 use lib.ListN.{take, drop}
 use denote.Ref.{now}
-use Rattle.words.specs.Bytes.{bytesAt}
-use Rattle.flash.specs.Sessions.{Outcome}
+use Rattle.words.specs.rules.Bytes.{bytesAt}
+use Rattle.flash.specs.rules.Sessions.{CallOutcome}
 use Rattle.flash.proofs.Cases.{load-short, load-spent, load-whole}
 use Rattle.flash.proofs.load_at.Statement.{statement}
 use Rattle.flash.proofs.load_at.Tie as tie
@@ -39,7 +39,7 @@ halt-requires c κs = search needs
 returns : tie.Need-returns
 returns c = let a = c .before .before .before .before .before .args in
     let short = load-short (a .session) (now (a .memory)) (now (a .image)) (a .address) (a .size) (a .place) (c .before .if1 .taken) in
-    (c .halt .ensures ∙ sym (ap (λ (o : Outcome). o .answer) short), sym (ap (λ (o : Outcome). o .memory) short))
+    (c .halt .ensures ∙ sym (ap (λ (o : CallOutcome). o .answer) short), sym (ap (λ (o : CallOutcome). o .memory) short))
 
 is-spent-requires : tie.Need-is-spent-requires
 is-spent-requires c κs = search needs
@@ -50,7 +50,7 @@ halt-requires-2 c κs = search needs
 returns-2 : tie.Need-returns-2
 returns-2 c = let a = c .before .before .before .before .before .before .before .before .args in
     let spent = load-spent (a .session) (now (a .memory)) (now (a .image)) (a .address) (a .size) (a .place) (c .before .before .before .before .if1 .left) (sym (c .before .before .is-spent .ensures) ∙ c .before .if2 .taken) in
-    (c .halt2 .ensures ∙ sym (ap (λ (o : Outcome). o .answer) spent), sym (ap (λ (o : Outcome). o .memory) spent))
+    (c .halt2 .ensures ∙ sym (ap (λ (o : CallOutcome). o .answer) spent), sym (ap (λ (o : CallOutcome). o .memory) spent))
 
 add-to : tie.Need-add-to
 add-to c = search needs
@@ -77,8 +77,8 @@ returns-3 : tie.Need-returns-3
 returns-3 c = let a = c .before .before .before .before .before .before .before .before .before .before .before .before .before .args in
     let whole = load-whole (a .session) (now (a .memory)) (now (a .image)) (a .address) (a .size) (a .place) (c .before .before .before .before .before .before .before .before .before .if1 .left) (sym (c .before .before .before .before .before .before .before .is-spent .ensures) ∙ c .before .before .before .before .before .before .if2 .left) in
     let done = rw (part (now (a .image)) (a .session .offset + 12) (a .size)) at (c .before .before .before .load .ensures) in (
-      rw (c .load-answer .ensures, done .0) (sym (ap (λ (o : Outcome). o .answer) whole)),
-      done .1 ∙ sym (ap (λ (o : Outcome). o .memory) whole),
+      rw (c .load-answer .ensures, done .0) (sym (ap (λ (o : CallOutcome). o .answer) whole)),
+      done .1 ∙ sym (ap (λ (o : CallOutcome). o .memory) whole),
     )
 
 pub load-at-spec : {M : Type 1} → statement M

@@ -4,8 +4,8 @@ use mathlib.Core.Path.{_≡_, sym, ap, _∙_}
 use mathlib.Core.List.{List}
 use Prim.Native.Nat.{ℕ}
 use denote.Ref.{now}
-use Rattle.script.specs.declared.Command.{Command}
-use Rattle.flash.specs.Step.{performed}
+use Rattle.opcodes.specs.declared.Command.{Command}
+use Rattle.flash.specs.rules.Step.{performed}
 use Rattle.flash.specs.declared.Session.{Session}
 use Rattle.flash.proofs.perform.Statement.{statement}
 use Rattle.flash.proofs.perform.Tie as tie

@@ -3,7 +3,7 @@ use borrow.Author.Needs.{needs}
 use mathlib.Core.Path.{sym, _∙_}
 use borrow.Author.Tests.{le-leb, lt-leb, eq-eqb, ne-eqb}
 use Rattle.words.proofs.Choice.{chosen, passed}
-use Rattle.flash.specs.Step.{requested}
+use Rattle.flash.specs.rules.Step.{requested}
 use Rattle.flash.proofs.request.Statement.{statement}
 use Rattle.flash.proofs.request.Tie as tie
 

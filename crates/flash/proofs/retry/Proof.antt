@@ -1,7 +1,7 @@
 -- `flash::retry` meets its contract: each arm is one case of where the seek leads.
 use borrow.Author.Needs.{needs}
 use mathlib.Core.Path.{sym, ap, _∙_}
-use Rattle.flash.specs.Step.{soughtAs}
+use Rattle.flash.specs.rules.Step.{soughtAs}
 use Rattle.flash.proofs.retry.Statement.{statement}
 use Rattle.flash.proofs.retry.Tie as tie
 

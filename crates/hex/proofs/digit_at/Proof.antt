@@ -1,6 +1,6 @@
 -- `hex::digit_at` meets its contract: the four bits at their place are a value, whose digit it is.
 use borrow.Author.Needs.{needs}
-use Rattle.hex.specs.Digits.{digitAt}
+use Rattle.hex.specs.rules.Digits.{digitAt}
 use Rattle.hex.proofs.digit_at.Statement.{statement}
 use Rattle.hex.proofs.digit_at.Tie as tie
 

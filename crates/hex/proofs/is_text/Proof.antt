@@ -10,7 +10,7 @@ use lib.Dec.{eqb}
 use lib.ListN.{length, getD, drop, drop-of-length-le}
 use lib.Seq.{drop-cons}
 use denote.Ref.{now}
-use Rattle.hex.specs.Text.{allDigits}
+use Rattle.hex.specs.rules.Text.{allDigits}
 use Rattle.hex.proofs.Texts.{looked}
 use Rattle.hex.proofs.is_text.Statement.{statement}
 use Rattle.hex.proofs.is_text.Tie as tie

@@ -5,7 +5,7 @@ use mathlib.Core.Bool.{false}
 use mathlib.Core.Path.{_≡_, sym}
 use native.Mathlib.Decide.{decLt}
 use native.Mathlib.Omega.{arith}
-use Rattle.words.specs.Bits.{within}
+use Rattle.words.specs.rules.Bits.{within}
 use Rattle.words.proofs.Choice.{chosen, passed}
 use Rattle.words.proofs.Ranges.{inside, below, above}
 use Rattle.hex.proofs.outside.Statement.{statement}

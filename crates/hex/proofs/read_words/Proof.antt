@@ -5,7 +5,7 @@ use mathlib.Core.Path.{_≡_, refl}
 use native.Mathlib.Omega.{arith}
 use lib.ListN.{length}
 use denote.Ref.{now}
-use Rattle.hex.specs.Text.{eachWord, readWord, imageOf, laid}
+use Rattle.hex.specs.rules.Text.{eachWord, readWord, imageOf, laid}
 use Rattle.hex.proofs.Turning.{image-length, same-room-read, word-read}
 use Rattle.hex.proofs.read_words.Statement.{statement}
 use Rattle.hex.proofs.read_words.Tie as tie

@@ -1,13 +1,13 @@
 -- `hex::write_words` meets its contract: after i turns the first i words are laid into the room, and the next one makes it i + 1.
 use borrow.Author.Needs.{needs}
-use Prim.Native.Nat.{_+_, _-_, _*_, _/_, _≤_}
+use Prim.Native.Nat.{_-_, _*_, _/_, _≤_}
 use mathlib.Core.Path.{_≡_, refl, _∙_}
 use native.Mathlib.Omega.{arith}
 use lib.ListN.{length}
 use denote.Ref.{now}
 use Rattle.words.specs.declared.Unit.the-variants.{Four}
 use Rattle.words.proofs.Units.{unit-number}
-use Rattle.hex.specs.Text.{eachWord, writtenWord, textOf, laid}
+use Rattle.hex.specs.rules.Text.{eachWord, writtenWord, textOf, laid}
 use Rattle.hex.proofs.Turning.{text-length, same-room-written, word-written}
 use Rattle.hex.proofs.write_words.Statement.{statement}
 use Rattle.hex.proofs.write_words.Tie as tie

@@ -2,7 +2,7 @@
 use borrow.Author.Needs.{needs}
 use mathlib.Core.Path.{ap}
 use Rattle.sent.specs.declared.Answer.{Answer}
-use Rattle.port.specs.Port.{toldOf}
+use Rattle.port.specs.rules.Port.{toldOf}
 use Rattle.port.proofs.advance.Statement.{statement}
 use Rattle.port.proofs.advance.Tie as tie
 

@@ -41,12 +41,12 @@ use denote.Triple.Clauses.{ensured, lasts}
 use denote.Triple.Table.{entered, cited}
 use denote.Triple.Walked.{says, Stays, stay-ref, stay-none, gave-slice, walkOf, AllGo, goes-ref, goes-none, goes-gave-slice, Walks, ends-at, walked, walk-meets}
 use denote.Exit.{yes}
-use Rattle.sent.specs.Line.{unitStep}
+use Rattle.sent.specs.rules.Line.{unitStep}
 use Rattle.sent.specs.declared.Bus.the-variants.{Bytes}
 use Rattle.sent.specs.declared.Session.{Session}
 use Rattle.sent.proofs.Session as session-type
 use Rattle.sent.proofs.Session.Laws as session-laws
-use Rattle.port.specs.Port.{isGiven}
+use Rattle.port.specs.rules.Port.{isGiven}
 use Rattle.port.specs.declared.Fed.{Fed}
 use Rattle.port.specs.declared.Told.{Told}
 use Rattle.port.proofs.Fed as fed-type

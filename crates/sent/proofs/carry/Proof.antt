@@ -1,6 +1,6 @@
 -- `sent::carry` meets its contract: its parts are those of the word's answer, and the line is the one after it.
 use borrow.Author.Needs.{needs}
-use Rattle.sent.specs.Line.{carried}
+use Rattle.sent.specs.rules.Line.{carried}
 use Rattle.sent.proofs.carry.Statement.{statement}
 use Rattle.sent.proofs.carry.Tie as tie
 

@@ -4,7 +4,7 @@ use Prim.Native.Nat.{_≤_, _<_}
 use mathlib.Core.Path.{sym, _∙_}
 use native.Mathlib.Omega.{arith}
 use lib.ListN.{length, List·getD-eq-default}
-use Rattle.sent.specs.Bus.{halvesOf}
+use Rattle.sent.specs.rules.Bus.{halvesOf}
 use Rattle.sent.proofs.Units.{halves-count, half-at}
 use Rattle.sent.proofs.half_at.Statement.{statement}
 use Rattle.sent.proofs.half_at.Tie as tie

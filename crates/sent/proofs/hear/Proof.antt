@@ -5,19 +5,19 @@ use mathlib.Core.List.{List}
 use mathlib.Core.Path.{_≡_, refl, sym, ap, _∙_}
 use denote.Ref.{now}
 use borrow.Author.Tests.{not-true, not-false}
-use Rattle.sent.specs.Bus.{pushed}
-use Rattle.sent.specs.Line.{Outcome}
-use Rattle.sent.specs.Machine.{wordStep}
+use Rattle.sent.specs.rules.Bus.{pushed}
+use Rattle.sent.specs.rules.Line.{UnitOutcome}
+use Rattle.machine.specs.rules.Machine.{wordStep}
 use Rattle.sent.specs.declared.Answer.{Answer}
 use Rattle.sent.proofs.Cases.{carried-answer, carried-memory, unit-ended, unit-memory, unit-start, unit-dropped, unit-gathered, unit-whole}
 use Rattle.sent.proofs.hear.Statement.{statement}
 use Rattle.sent.proofs.hear.Tie as tie
 
-told : {o p : Outcome} {a : Answer} → o ≡ p → a ≡ p .answer → a ≡ o .answer
-told e h = h ∙ sym (ap (λ (o : Outcome). o .answer) e)
+told : {o p : UnitOutcome} {a : Answer} → o ≡ p → a ≡ p .answer → a ≡ o .answer
+told e h = h ∙ sym (ap (λ (o : UnitOutcome). o .answer) e)
 
-left-in : {o p : Outcome} {m : List ℕ} → o ≡ p → m ≡ p .memory → m ≡ o .memory
-left-in e h = h ∙ sym (ap (λ (o : Outcome). o .memory) e)
+left-in : {o p : UnitOutcome} {m : List ℕ} → o ≡ p → m ≡ p .memory → m ≡ o .memory
+left-in e h = h ∙ sym (ap (λ (o : UnitOutcome). o .memory) e)
 
 silent-requires : tie.Need-silent-requires
 silent-requires c κs = search needs

@@ -2,7 +2,7 @@
 use borrow.Author.Needs.{needs}
 use Prim.Native.Nat.{_-_}
 use mathlib.Core.Path.{sym, ap}
-use Rattle.sent.specs.Bus.{unitsInWord}
+use Rattle.sent.specs.rules.Bus.{unitsInWord}
 use Rattle.sent.specs.declared.Bus.{Bus}
 use Rattle.sent.proofs.last_unit.Statement.{statement}
 use Rattle.sent.proofs.last_unit.Tie as tie

@@ -6,14 +6,14 @@ use Rattle.words.proofs.Choice.{chosen, passed}
 use Rattle.sent.proofs.line_after.Statement.{statement}
 use Rattle.sent.proofs.line_after.Tie as tie
 
-number-requires : tie.Need-number-requires
-number-requires c κs = search needs
+code-requires : tie.Need-code-requires
+code-requires c κs = search needs
 
 returns : tie.Need-returns
-returns c = sym (chosen _ _ _ (eq-eqb _ _ (sym (c .before .number .ensures) ∙ c .if1 .taken)))
+returns c = sym (chosen _ _ _ (eq-eqb _ _ (sym (c .before .code .ensures) ∙ c .if1 .taken)))
 
 returns-2 : tie.Need-returns-2
-returns-2 c = sym (passed _ _ _ (ne-eqb _ _ (rw (c .before .number .ensures) at (c .if1 .left))))
+returns-2 c = sym (passed _ _ _ (ne-eqb _ _ (rw (c .before .code .ensures) at (c .if1 .left))))
 
 pub line-after-spec : {M : Type 1} → statement M
-line-after-spec = tie.close (tie.spec number-requires returns returns-2)
+line-after-spec = tie.close (tie.spec code-requires returns returns-2)

@@ -2,7 +2,7 @@
 use borrow.Author.Needs.{needs}
 use mathlib.Core.Path.{sym, _∙_}
 use Rattle.words.proofs.Choice.{chosen, passed}
-use Rattle.sent.specs.Opening.{openedBy}
+use Rattle.sent.specs.rules.Opening.{openedBy}
 use Rattle.sent.proofs.open_on.Statement.{statement}
 use Rattle.sent.proofs.open_on.Tie as tie
 

@@ -2,7 +2,7 @@
 use borrow.Author.Needs.{needs}
 use Prim.Native.Nat.{_<_}
 use native.Mathlib.Omega.{arith}
-use Rattle.sent.specs.Bus.{pushed}
+use Rattle.sent.specs.rules.Bus.{pushed}
 use Rattle.sent.proofs.push.Statement.{statement}
 use Rattle.sent.proofs.push.Tie as tie
 

@@ -1,8 +1,8 @@
 -- `sent::start_reply` meets its contract: its bytes are those of the unit that answers.
 use borrow.Author.Needs.{needs}
 use mathlib.Core.Path.{sym, ap}
-use Rattle.words.specs.Bytes.{byte}
-use Rattle.sent.specs.Replies.{startAnswer}
+use Rattle.words.specs.rules.Bytes.{byte}
+use Rattle.sent.specs.rules.Line.{startAnswer}
 use Rattle.sent.proofs.start_reply.Statement.{statement}
 use Rattle.sent.proofs.start_reply.Tie as tie
 

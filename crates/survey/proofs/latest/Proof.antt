@@ -2,7 +2,7 @@
 use borrow.Author.Needs.{needs}
 use mathlib.Core.Path.{sym, _∙_}
 use Rattle.words.proofs.Choice.{chosen, passed}
-use Rattle.survey.specs.Survey.{latest}
+use Rattle.survey.specs.rules.Survey.{latest}
 use Rattle.survey.proofs.latest.Statement.{statement}
 use Rattle.survey.proofs.latest.Tie as tie
 

@@ -2,7 +2,7 @@
 use borrow.Author.Needs.{needs}
 use mathlib.Core.Path.{sym, _∙_}
 use Rattle.words.proofs.Choice.{chosen, passed}
-use Rattle.survey.specs.Images.{setOf}
+use Rattle.survey.specs.rules.Images.{setOf}
 use Rattle.survey.proofs.set_of.Statement.{statement}
 use Rattle.survey.proofs.set_of.Tie as tie
 

@@ -1,8 +1,8 @@
 -- `survey::unlike` meets its contract: two tests in a row are the one test that both hold.
 use borrow.Author.Needs.{needs}
 use mathlib.Core.Path.{sym, _∙_}
-use Rattle.words.specs.Choice.{pick}
-use Rattle.survey.specs.Images.{unlike}
+use Rattle.words.specs.rules.Choice.{pick}
+use Rattle.survey.specs.rules.Images.{unlike}
 use Rattle.survey.proofs.unlike.Statement.{statement}
 use Rattle.survey.proofs.unlike.Tie as tie
 

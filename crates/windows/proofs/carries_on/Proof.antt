@@ -6,7 +6,7 @@ use borrow.Author.Needs.{needs}
 use borrow.Author.Tests.{not-true, not-false}
 use native.Mathlib.Omega.{arith}
 use lib.ListN.{drop}
-use Rattle.windows.specs.Window.{carriesOn}
+use Rattle.windows.specs.rules.Window.{carriesOn}
 use Rattle.windows.proofs.Chains.{carries-here}
 use Rattle.windows.proofs.Left.{carries-none, carries-next, carries-fails}
 use Rattle.windows.proofs.carries_on.Statement.{statement}

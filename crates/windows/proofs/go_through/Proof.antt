@@ -6,7 +6,7 @@ use Prim.Native.Nat.{_-_, _*_, _^_, _≤_}
 use borrow.Author.Needs.{needs}
 use native.Mathlib.Omega.{arith}
 use lib.ListN.{drop}
-use Rattle.windows.specs.Window.{placeFrom, placeOf}
+use Rattle.windows.specs.rules.Window.{placeFrom, placeOf}
 use Rattle.windows.proofs.Left.{place-none, place-not-held, place-within, place-carried, place-broken}
 use Rattle.windows.proofs.Parts.{held}
 use Rattle.windows.proofs.go_through.Statement.{statement}

@@ -1,7 +1,7 @@
 -- `windows::grants` meets its contract: where the window holds the address, the range's end decides.
 use mathlib.Core.Path.{refl, sym, _∙_}
 use borrow.Author.Needs.{needs}
-use Rattle.windows.specs.Window.{grantsRange}
+use Rattle.windows.specs.rules.Window.{grantsRange}
 use Rattle.windows.proofs.grants.Statement.{statement}
 use Rattle.windows.proofs.grants.Tie as tie
 

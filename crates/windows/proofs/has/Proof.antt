@@ -4,7 +4,7 @@ use Prim.Native.Nat.{ℕ, _/_, _%_}
 use borrow.Author.Needs.{needs}
 use native.Mathlib.Omega.{arith}
 use lib.Dec.{eqb}
-use Rattle.windows.specs.Window.{hasRight}
+use Rattle.windows.specs.rules.Window.{hasRight}
 use Rattle.windows.proofs.has.Statement.{statement}
 use Rattle.windows.proofs.has.Tie as tie
 

@@ -4,7 +4,7 @@ use Prim.Native.Nat.{ℕ, _-_, _≤_, max}
 use borrow.Author.Needs.{needs}
 use native.Mathlib.Omega.{arith}
 use lib.ListN.{length}
-use Rattle.windows.specs.Map.{keptOf}
+use Rattle.windows.specs.rules.Map.{keptOf}
 use Rattle.windows.proofs.Left.{kept-cleared, kept-all}
 use Rattle.windows.proofs.kept.Statement.{statement}
 use Rattle.windows.proofs.kept.Tie as tie

@@ -1,9 +1,9 @@
 -- `windows::locate` meets its contract: a range that the first window grants by itself lies where the search from that window on would find it.
-use mathlib.Core.Path.{_≡_, refl, sym, ap, _∙_}
+use mathlib.Core.Path.{refl, sym, ap, _∙_}
 use native.Mathlib.Nat.{zero-add}
 use borrow.Author.Needs.{needs}
 use Rattle.windows.specs.declared.Place.the-variants.{At}
-use Rattle.windows.specs.Window.{placeOf}
+use Rattle.windows.specs.rules.Window.{placeOf}
 use Rattle.windows.proofs.Left.{place-within}
 use Rattle.windows.proofs.Parts.{granted, held}
 use Rattle.windows.proofs.locate.Statement.{statement}

@@ -7,7 +7,7 @@ use borrow.Author.Needs.{needs}
 use borrow.Author.Tests.{not-true, not-false}
 use native.Mathlib.Omega.{arith}
 use lib.ListN.{take, drop, length-take}
-use Rattle.windows.specs.Map.{soundAndRising}
+use Rattle.windows.specs.rules.Map.{soundAndRising}
 use Rattle.windows.proofs.Left.{rising-none, rising-on, rising-fails}
 use Rattle.windows.proofs.sound_and_rising.Statement.{statement}
 use Rattle.windows.proofs.sound_and_rising.Tie as tie

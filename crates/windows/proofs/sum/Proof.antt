@@ -2,7 +2,7 @@
 use borrow.Author.Needs.{needs}
 use mathlib.Core.Path.{ap, _∙_}
 use lib.Seq.{take-all}
-use Rattle.windows.specs.Window.{sumOf}
+use Rattle.windows.specs.rules.Window.{sumOf}
 use Rattle.windows.proofs.sum.Statement.{statement}
 use Rattle.windows.proofs.sum.Tie as tie
 

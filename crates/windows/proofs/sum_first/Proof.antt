@@ -5,7 +5,7 @@ use Prim.Native.Nat.{_+_, _-_, _*_, _^_, _≤_}
 use borrow.Author.Needs.{needs}
 use native.Mathlib.Omega.{arith}
 use lib.ListN.{length, take, drop, length-take}
-use Rattle.windows.specs.Window.{sumOf}
+use Rattle.windows.specs.rules.Window.{sumOf}
 use Rattle.windows.proofs.Left.{sum-counted, sum-none}
 use Rattle.windows.proofs.sum_first.Statement.{statement}
 use Rattle.windows.proofs.sum_first.Tie as tie

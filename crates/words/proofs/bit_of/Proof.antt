@@ -1,7 +1,7 @@
 -- `words::bit_of` meets its contract: below 32 the code is the definition, and from 32 on a value has no bits.
 use borrow.Author.Needs.{needs}
 use mathlib.Core.Path.{sym}
-use Rattle.words.specs.Bits.{bit}
+use Rattle.words.specs.rules.Bits.{bit}
 use Rattle.words.proofs.Joins.{bit-past}
 use Rattle.words.proofs.bit_of.Statement.{statement}
 use Rattle.words.proofs.bit_of.Tie as tie

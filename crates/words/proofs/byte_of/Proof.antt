@@ -3,7 +3,7 @@ use borrow.Author.Needs.{needs}
 use Prim.Native.Nat.{ℕ, _*_, _%_}
 use mathlib.Core.Path.{sym, ap}
 use native.Mathlib.Omega.{arith}
-use Rattle.words.specs.Bytes.{byte}
+use Rattle.words.specs.rules.Bytes.{byte}
 use Rattle.words.proofs.Joins.{past}
 use Rattle.words.proofs.byte_of.Statement.{statement}
 use Rattle.words.proofs.byte_of.Tie as tie

@@ -6,7 +6,7 @@ use native.Mathlib.Omega.{arith}
 use native.Mathlib.Nat.{lt-of-lt-of-le, one-mul}
 use lib.Dec.{lit<}
 use lib.Pow.{pow-pos, pow-mono, shl-exact}
-use Rattle.words.specs.Bits.{join}
+use Rattle.words.specs.rules.Bits.{join}
 use Rattle.words.proofs.Joins.{join-lt}
 use Rattle.words.proofs.joined.Statement.{statement}
 use Rattle.words.proofs.joined.Tie as tie

@@ -1,7 +1,7 @@
 -- `words::number_by` meets its contract: the sum is the list's number written out, and each byte is below 256.
 use borrow.Author.Needs.{needs}
-use Rattle.words.specs.Bits.{join}
-use Rattle.words.specs.Bytes.{number}
+use Rattle.words.specs.rules.Bits.{join}
+use Rattle.words.specs.rules.Bytes.{number}
 use Rattle.words.proofs.number_by.Statement.{statement}
 use Rattle.words.proofs.number_by.Tie as tie
 

@@ -1,7 +1,7 @@
 -- `words::put_bytes` meets its contract: after i turns the first i bytes are written, and what is left of the value is the rest of its bytes.
 use Prim.Native.Nat.{ℕ, _+_, _-_, _*_, _/_, _^_, _≤_}
 use mathlib.Core.Path.{_≡_, ap, _∙_}
-use Rattle.words.specs.Bytes.{byte, put}
+use Rattle.words.specs.rules.Bytes.{byte, put}
 use borrow.Author.Needs.{needs}
 use native.Mathlib.Omega.{arith}
 use lib.Pow.{shr-shr}

@@ -3,7 +3,7 @@ use borrow.Author.Needs.{needs}
 use native.Mathlib.Omega.{arith}
 use native.Mathlib.Nat.{lt-of-le-of-lt, lt-of-lt-of-le}
 use lib.Pow.{pow-mono, shr-le}
-use Rattle.words.specs.Bits.{withField}
+use Rattle.words.specs.rules.Bits.{withField}
 use Rattle.words.proofs.Joins.{above-lt, withField-lt}
 use Rattle.words.proofs.with_field.Statement.{statement}
 use Rattle.words.proofs.with_field.Tie as tie

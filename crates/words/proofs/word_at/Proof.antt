@@ -3,7 +3,7 @@ use borrow.Author.Needs.{needs}
 use mathlib.Core.Path.{sym, ap, _∙_}
 use lib.ListN.{take, drop-of-length-le}
 use denote.Ref.{now}
-use Rattle.words.specs.Bytes.{number, bytesAt, wordAt}
+use Rattle.words.specs.rules.Bytes.{number, bytesAt, wordAt}
 use mathlib.Core.List.{List}
 use Prim.Native.Nat.{ℕ}
 use Rattle.words.proofs.Numbers.{from-place}

@@ -5,7 +5,7 @@ use native.Mathlib.Omega.{arith}
 use Rattle.words.proofs.Units.{write-refused, write-done}
 use Prim.Native.Nat.{ℕ}
 use denote.Ref.{now}
-use Rattle.words.specs.Bytes.{byte, put}
+use Rattle.words.specs.rules.Bytes.{byte, put}
 use Rattle.words.proofs.write.Statement.{statement}
 use Rattle.words.proofs.write.Tie as tie
 

@@ -5,8 +5,8 @@ use Prim.Native.Nat.{ℕ}
 use mathlib.Core.Path.{ap, ap₂, _∙_}
 use native.Mathlib.Omega.{arith}
 use denote.Ref.{now}
-use Rattle.words.specs.Bits.{withField}
-use Rattle.words.specs.Bytes.{byte, put}
+use Rattle.words.specs.rules.Bits.{withField}
+use Rattle.words.specs.rules.Bytes.{byte, put}
 use Rattle.words.proofs.Units.{size-within, unit-number, field-past-end, field-past-unit, field-done}
 use Rattle.words.proofs.write_field.Statement.{statement}
 use Rattle.words.proofs.write_field.Tie as tie

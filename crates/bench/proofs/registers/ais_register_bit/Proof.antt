@@ -1,11 +1,11 @@
 -- `bench::registers::ais_register_bit` meets its contract: by its two tests; else the line that is found is told.
 use borrow.Author.Needs.{needs}
 use mathlib.Core.Path.{sym, ap, _∙_}
-use Rattle.bench.specs.Registers.{Told, nameTold}
+use Rattle.bench.specs.rules.Registers.{Told, nameTold}
 use Rattle.bench.proofs.RegisterCalls.{no-room, text-refused, answered}
-use Rattle.register.specs.Questions.{fieldOf}
-use Rattle.register.specs.Reading.{readingOf}
-use Rattle.register.proofs.Bounds.{line-low}
+use Rattle.field_register.specs.rules.Questions.{fieldOf}
+use Rattle.field_register.specs.rules.Reading.{readingOf}
+use Rattle.field_register.proofs.Bounds.{line-low}
 use Rattle.bench.proofs.registers.ais_register_bit.Statement.{statement}
 use Rattle.bench.proofs.registers.ais_register_bit.Tie as tie
 
@@ -26,8 +26,8 @@ returns c =
 read-requires : tie.Need-read-requires
 read-requires c κs = search needs
 
-number-requires : tie.Need-number-requires
-number-requires c κs = search needs
+code-requires : tie.Need-code-requires
+code-requires c κs = search needs
 
 read-value-requires : tie.Need-read-value-requires
 read-value-requires c κs = rw (c .before .before .read .ensures) (line-low (c .before .before .before .before .before .before .args .text .now))
@@ -40,7 +40,7 @@ returns-2 c =
     let bad =
     text-refused (readingOf (start .args .text .now)) 16 (start .args .name .now)
     (nameTold (fieldOf (readingOf (start .args .text .now) .register) (start .args .word) (start .args .bit) (start .args .release)) (start .args .name .now))
-    (after-if1 .if1 .left) (λ e. c .before .if2 .taken (c .before .before .number .ensures ∙ rw (at-read .read .ensures) e)) in (
+    (after-if1 .if1 .left) (λ e. c .before .if2 .taken (c .before .before .code .ensures ∙ rw (at-read .read .ensures) e)) in (
       c .read-value .ensures ∙ rw (at-read .read .ensures) (ap (λ (t : Told). t .value) bad),
       ap (λ (t : Told). t .room) bad,
     )
@@ -65,7 +65,7 @@ returns-3 c =
     let good =
     answered (readingOf (start .args .text .now)) 16 (start .args .name .now)
     (nameTold (fieldOf (readingOf (start .args .text .now) .register) (start .args .word) (start .args .bit) (start .args .release)) (start .args .name .now))
-    (after-if1 .if1 .left) (rw (← at-read .read .ensures) (sym (at-number .number .ensures) ∙ after-if2 .if2 .left)) in (
+    (after-if1 .if1 .left) (rw (← at-read .read .ensures) (sym (at-number .code .ensures) ∙ after-if2 .if2 .left)) in (
       (rw (at-field-of .field-of .ensures, at-read .read .ensures) at (c .before .before .tell-name .ensures .0)) ∙ ap (λ (t : Told). t .value) good,
       (rw (at-field-of .field-of .ensures, at-read .read .ensures) at (c .before .before .tell-name .ensures .1)) ∙ ap (λ (t : Told). t .room) good,
     )
@@ -77,7 +77,7 @@ ais-register-bit-spec =
     refuse-requires
     returns
     read-requires
-    number-requires
+    code-requires
     read-value-requires
     returns-2
     field-of-requires

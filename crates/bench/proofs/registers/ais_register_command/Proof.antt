@@ -1,11 +1,11 @@
 -- `bench::registers::ais_register_command` meets its contract: by its two tests; else the command is told.
 use borrow.Author.Needs.{needs}
 use mathlib.Core.Path.{sym, ap, _∙_}
-use Rattle.bench.specs.Registers.{Told, commandTold}
+use Rattle.bench.specs.rules.Registers.{Told, commandTold}
 use Rattle.bench.proofs.RegisterCalls.{no-room, text-refused, answered}
-use Rattle.register.specs.Commands.{commandFor}
-use Rattle.register.specs.Reading.{readingOf}
-use Rattle.register.proofs.Bounds.{line-low}
+use Rattle.field_register.specs.rules.Commands.{commandFor}
+use Rattle.field_register.specs.rules.Reading.{readingOf}
+use Rattle.field_register.proofs.Bounds.{line-low}
 use Rattle.bench.proofs.registers.ais_register_command.Statement.{statement}
 use Rattle.bench.proofs.registers.ais_register_command.Tie as tie
 
@@ -26,8 +26,8 @@ returns c =
 read-requires : tie.Need-read-requires
 read-requires c κs = search needs
 
-number-requires : tie.Need-number-requires
-number-requires c κs = search needs
+code-requires : tie.Need-code-requires
+code-requires c κs = search needs
 
 read-value-requires : tie.Need-read-value-requires
 read-value-requires c κs =
@@ -42,7 +42,7 @@ returns-2 c =
     let bad =
     text-refused (readingOf (start .args .text .now)) 20 (start .args .command .now)
     (commandTold (commandFor (readingOf (start .args .text .now) .register) (start .args .name .now) (start .args .release) (start .args .value)) (start .args .command .now))
-    (after-if1 .if1 .left) (λ e. c .before .if2 .taken (c .before .before .number .ensures ∙ rw (at-read .read .ensures) e)) in (
+    (after-if1 .if1 .left) (λ e. c .before .if2 .taken (c .before .before .code .ensures ∙ rw (at-read .read .ensures) e)) in (
       c .read-value .ensures ∙ rw (at-read .read .ensures) (ap (λ (t : Told). t .value) bad),
       ap (λ (t : Told). t .room) bad,
     )
@@ -67,7 +67,7 @@ returns-3 c =
     let good =
     answered (readingOf (start .args .text .now)) 20 (start .args .command .now)
     (commandTold (commandFor (readingOf (start .args .text .now) .register) (start .args .name .now) (start .args .release) (start .args .value)) (start .args .command .now))
-    (after-if1 .if1 .left) (rw (← at-read .read .ensures) (sym (at-number .number .ensures) ∙ after-if2 .if2 .left)) in (
+    (after-if1 .if1 .left) (rw (← at-read .read .ensures) (sym (at-number .code .ensures) ∙ after-if2 .if2 .left)) in (
       (rw (at-command .command .ensures, at-read .read .ensures) at (c .before .before .tell-command .ensures .0)) ∙ ap (λ (t : Told). t .value) good,
       (rw (at-command .command .ensures, at-read .read .ensures) at (c .before .before .tell-command .ensures .1)) ∙ ap (λ (t : Told). t .room) good,
     )
@@ -79,7 +79,7 @@ ais-register-command-spec =
     refuse-requires
     returns
     read-requires
-    number-requires
+    code-requires
     read-value-requires
     returns-2
     command-requires

@@ -1,6 +1,6 @@
 -- `bench::registers::ais_register_read` meets its contract: the text is read, and its value told.
 use borrow.Author.Needs.{needs}
-use Rattle.register.proofs.Bounds.{line-low}
+use Rattle.field_register.proofs.Bounds.{line-low}
 use Rattle.bench.proofs.registers.ais_register_read.Statement.{statement}
 use Rattle.bench.proofs.registers.ais_register_read.Tie as tie
 

@@ -1,6 +1,6 @@
 -- `bench::registers::put_words` meets its contract: word by word.
 use borrow.Author.Needs.{needs}
-use Rattle.bench.specs.Registers.{fiveWritten}
+use Rattle.bench.specs.rules.Registers.{fiveWritten}
 use Rattle.bench.proofs.registers.put_words.Statement.{statement}
 use Rattle.bench.proofs.registers.put_words.Tie as tie
 

@@ -2,7 +2,7 @@
 use borrow.Author.Needs.{needs}
 use mathlib.Core.Path.{ap, _∙_}
 use borrow.Author.Tests.{not-true, not-false}
-use Rattle.bench.specs.Registers.{Told}
+use Rattle.bench.specs.rules.Registers.{Told}
 use Rattle.bench.proofs.RegisterCalls.{name-none, name-some}
 use Rattle.bench.proofs.registers.tell_name.Statement.{statement}
 use Rattle.bench.proofs.registers.tell_name.Tie as tie

@@ -5,7 +5,7 @@ use mathlib.Core.Path.{sym, ap, _∙_}
 use native.Mathlib.Omega.{arith}
 use borrow.Author.Tests.{eq-eqb, ne-eqb, not-false}
 use Rattle.words.proofs.Choice.{chosen, passed}
-use Rattle.flash.specs.Opening.{openedBy}
+use Rattle.flash.specs.rules.Opening.{openedBy}
 use lib.ListN.{length}
 use denote.Ref.{now}
 use Rattle.flash.proofs.Cases.{length-small}

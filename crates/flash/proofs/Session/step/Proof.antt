@@ -1,11 +1,11 @@
 -- `flash::Session::step` meets its contract: its tests are those of the definition, in their order, and what is left is the command.
 use borrow.Author.Needs.{needs}
 use mathlib.Core.Path.{_≡_, refl, sym, ap, _∙_}
-use Rattle.script.specs.Opcodes.{lookedUp}
-use Rattle.script.specs.declared.Mode.the-variants.{Flash}
+use Rattle.opcodes.specs.rules.Opcodes.{lookedUp}
+use Rattle.opcodes.specs.declared.Mode.the-variants.{Flash}
 use denote.Ref.{now}
 use borrow.Author.Tests.{not-true, not-false}
-use Rattle.flash.specs.Sessions.{Outcome}
+use Rattle.flash.specs.rules.Sessions.{CallOutcome}
 use Rattle.flash.specs.declared.Called.{Called}
 use Rattle.flash.proofs.Cases.{call-ended, call-memory, call-image, call-short, call-row, image-small}
 use mathlib.Core.List.{List}
@@ -15,11 +15,11 @@ use lib.ListN.{length}
 use Rattle.flash.proofs.Session.step.Statement.{statement}
 use Rattle.flash.proofs.Session.step.Tie as tie
 
-told : {o p : Outcome} {a : Called} → o ≡ p → a ≡ p .answer → a ≡ o .answer
-told e h = h ∙ sym (ap (λ (o : Outcome). o .answer) e)
+told : {o p : CallOutcome} {a : Called} → o ≡ p → a ≡ p .answer → a ≡ o .answer
+told e h = h ∙ sym (ap (λ (o : CallOutcome). o .answer) e)
 
-left-in : {o p : Outcome} {m : List ℕ} → o ≡ p → m ≡ p .memory → m ≡ o .memory
-left-in e h = h ∙ sym (ap (λ (o : Outcome). o .memory) e)
+left-in : {o p : CallOutcome} {m : List ℕ} → o ≡ p → m ≡ p .memory → m ≡ o .memory
+left-in e h = h ∙ sym (ap (λ (o : CallOutcome). o .memory) e)
 
 keep-requires : tie.Need-keep-requires
 keep-requires c κs = search needs

@@ -1,6 +1,6 @@
 -- `survey::Survey::including` meets its contract: each count grows by what a call promises.
 use borrow.Author.Needs.{needs}
-use Rattle.survey.specs.Survey.{including}
+use Rattle.survey.specs.rules.Survey.{including}
 use Rattle.survey.proofs.Survey.including.Statement.{statement}
 use Rattle.survey.proofs.Survey.including.Tie as tie
 

@@ -1,6 +1,6 @@
 -- `survey::Survey::line` meets its contract: each part of the line is what a call promises.
 use borrow.Author.Needs.{needs}
-use Rattle.survey.specs.Survey.{lineOf}
+use Rattle.survey.specs.rules.Survey.{lineOf}
 use Rattle.survey.proofs.Survey.line.Statement.{statement}
 use Rattle.survey.proofs.Survey.line.Tie as tie
 

@@ -1,0 +1,51 @@
+-- No more bytes are counted than passed, so the count fits; what is left of the memory falls.
+use Prim.Native.Nat.{_≤_, _-_}
+use lib.ListN.{length}
+use borrow.Author.Needs.{needs}
+use Rattle.ais_transcripts.proofs.ends.changed.Statement.{statement}
+use Rattle.ais_transcripts.proofs.ends.changed.Tie as tie
+
+abbrev Inv-loop : tie.InvT-loop
+Inv-loop memory background n₀ i₀ n i = (i ≤ length memory) × (n ≤ i)
+
+abbrev μ-loop : tie.MeasureT-loop
+μ-loop memory background n₀ i₀ n i = length memory - i
+
+loop-holds : tie.Need-loop-holds Inv-loop μ-loop
+loop-holds c = search needs
+
+shared-slice-read-differs : tie.Need-shared-slice-read-differs Inv-loop μ-loop
+shared-slice-read-differs c = search needs
+
+differs-requires : tie.Need-differs-requires Inv-loop μ-loop
+differs-requires c κs = search needs
+
+add-n : tie.Need-add-n Inv-loop μ-loop
+add-n c = search needs
+
+add-i : tie.Need-add-i Inv-loop μ-loop
+add-i c = search needs
+
+loop-less : tie.Need-loop-less Inv-loop μ-loop
+loop-less c = search needs
+
+loop-again : tie.Need-loop-again Inv-loop μ-loop
+loop-again c = search needs
+
+returns : tie.Need-returns Inv-loop μ-loop
+returns c = search needs
+
+pub changed-spec : {M : Type 1} → statement M
+changed-spec =
+    tie.close
+    (tie.spec
+    Inv-loop
+    μ-loop
+    loop-holds
+    shared-slice-read-differs
+    differs-requires
+    add-n
+    add-i
+    loop-less
+    loop-again
+    returns)

@@ -1,4 +1,0 @@
-pub mod Agreeing
-pub mod Calls
-pub mod Units
-pub mod Words

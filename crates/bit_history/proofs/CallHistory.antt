@@ -1,0 +1,317 @@
+-- Calls of a flash session: what one tells is what its history has. By the tests before the command and by the command: only a load, a fill and a setting write.
+use Prim.Native.Nat.{ℕ, zero, suc, _+_, _*_, _/_, _≤_}
+use mathlib.Core.Bool.{Bool, true, false, not, _&&_}
+use mathlib.Core.List.{List, [], _∷_}
+use mathlib.Core.Path.{_≡_, refl, sym, ap, subst, _∙_}
+use native.Mathlib.Omega.{arith}
+use borrow.Author.Tests.{eqb-true, leb-true, leb-false}
+use lib.Dec.{eqb}
+use lib.ListN.{length, drop, replicate, length-take, length-drop}
+use Rattle.words.specs.rules.Bytes.{bytesAt, wordAt}
+use Rattle.words.specs.rules.Choice.{pick}
+use Rattle.words.proofs.Choice.{of-choice}
+use Rattle.windows.specs.rules.Window.{sumOf}
+use Rattle.opcodes.specs.rules.Answers.{codeOf}
+use Rattle.opcodes.specs.rules.Opcodes.{lookedUp}
+use Rattle.opcodes.specs.declared.Command.{Command}
+use Rattle.opcodes.specs.declared.Command.the-variants as command
+use Rattle.opcodes.specs.declared.Found.{Found}
+use Rattle.opcodes.specs.declared.Found.the-variants.{Known, Retired, Unknown}
+use Rattle.opcodes.specs.declared.Mode.the-variants.{Flash}
+use Rattle.opcodes.specs.declared.Refusal.{Refusal}
+use Rattle.opcodes.specs.declared.Refusal.the-variants as refusal
+use Rattle.ledger.specs.rules.Totals.{isSpent}
+use Rattle.ledger.specs.declared.Happening.{Happening}
+use Rattle.commands.specs.rules.Commands.{barred, loadJudged, loaded, unitOf, fillJudged, fillDone, fillMemory, shapeOf, settingJudged, settingDone, settingMemory, soughtFrom}
+use Rattle.commands.specs.rules.Wrote.{noneWrote, bytesWrote}
+use Rattle.commands.specs.declared.Done.{Done}
+use Rattle.commands.specs.declared.Judged.{Judged}
+use Rattle.commands.specs.declared.Judged.the-variants.{Granted, Refused}
+use Rattle.commands.specs.declared.Sought.{Sought}
+use Rattle.commands.specs.declared.Sought.the-variants as sought
+use Rattle.commands.specs.declared.Wrote.{Wrote}
+use Rattle.law_effects.specs.claims.Effects.{loadEffect, fillEffect, settingEffect}
+use Rattle.law_effects.specs.claims.Wrote.{Tells}
+use Rattle.law_effects.proofs.Wrote.{fill-reports, commands-tell}
+use Rattle.bit_stamps.specs.rules.Stamps.{entryAt}
+use Rattle.bit_history.specs.claims.History.{Numbered, numbersFit, stampedAll}
+use Rattle.bit_history.proofs.History.{history-laws}
+use Rattle.flash.specs.rules.Opening.{goodLength}
+use Rattle.flash.specs.rules.Sessions.{CallOutcome, _leaving_, fetching, unchanged, stopped}
+use Rattle.flash.specs.rules.Step.{present, wordsFrom, argument, after, loadDone, loadAt, loadJudgedAs, fillJudgedAs, settingJudgedAs, soughtAs, requested, performed, atRow, stepOf}
+use Rattle.flash.specs.claims.Totals.{Lent, answerTo}
+use Rattle.flash.specs.declared.Called.{Called}
+use Rattle.flash.specs.declared.Session.{Session}
+use Rattle.flash_runs.specs.rules.Run.{goesOn, enough}
+use Rattle.bit_watch.specs.rules.Watched.{callEntries, stampsOn, entriesOn, runEntries}
+use Rattle.bit_history.specs.claims.Accepted.{one, judgedOne}
+use Rattle.bit_history.specs.claims.CallHistory.{acceptedCommand, acceptedRow, callHistory, history, entriesAfter, lentOn, CallsTell}
+use Rattle.bit_history.proofs.Agreeing.{Agrees, agrees-none, agrees-one, agrees-shape, fit-one, fit-both, same-choice}
+
+-- what is shown of a call with an outcome and a history
+record Shown (m : List ℕ) (o : CallOutcome) (cs : List Numbered) : Type 0 where
+  agrees : Agrees (o .answer .wrote) cs
+  fits : numbersFit cs ≡ true
+  tells : Tells (o .answer .wrote) m (o .memory)
+
+-- a call that writes nothing
+record Idle (m : List ℕ) (o : CallOutcome) : Type 0 where
+  wrote : o .answer .wrote ≡ noneWrote
+  memory : o .memory ≡ m
+
+idle-shown : (m : List ℕ) (o : CallOutcome) → Idle m o → Shown m o []
+unfolding numbersFit
+idle-shown m o idle =
+    record {
+      agrees = agrees-none (o .answer .wrote) (ap (λ (w : Wrote). w .count) (idle .wrote));
+      fits = refl;
+      tells =
+          subst (λ (w : Wrote). Tells w m (o .memory)) (sym (idle .wrote))
+          (subst (Tells noneWrote m) (sym (idle .memory)) (commands-tell .nothing m));
+    }
+
+idle-choice : (m : List ℕ) (o : CallOutcome) (t : Bool) → Idle m o → Shown m o (pick t [] [])
+idle-choice m o t idle = subst (Shown m o) (sym (same-choice t)) (idle-shown m o idle)
+
+-- the history of an outcome, where its command is accepted
+abbrev accepts : CallOutcome → List Numbered → List Numbered
+accepts o cs = pick (eqb (codeOf (o .answer .refusal)) 0) cs []
+
+module _ (s : Session) (m image : List ℕ) where
+  -- the bytes of a load whose data are all there
+  whole-data : (at size : ℕ) → present image at ((size + 3) / 4) ≡ true → length (bytesAt image at size) ≡ size
+  unfolding present bytesAt
+  whole-data at size e =
+      let there : at + 4 * ((size + 3) / 4) ≤ length image = leb-true _ _ e in
+      length-take size (drop at image) ∙ omega (arith, length-drop at image, there)
+
+  -- a load that is granted, by whether its data are there and a number is left
+  module _ (address size place : ℕ) (granted : loadJudged (s .windows) address size ≡ Granted place) (lent : length m ≡ sumOf (s .windows)) where
+    abbrev bytes : List ℕ
+    bytes = bytesAt image (s .offset + 12) size
+
+    abbrev loads : List Numbered
+    loads = one (s .totals .next) (loadEffect place bytes)
+
+    abbrev loading : Bool → Bool → CallOutcome
+    loading there spent =
+        pick (not there) (stopped refusal.Missing s leaving m)
+        (pick spent (stopped refusal.Number s leaving m) (loadDone s m image address size place))
+
+    load-tells : length bytes ≡ size → Tells (bytesWrote (Granted place) size (s .totals .next)) m (loaded m place bytes)
+    load-tells whole =
+        subst (λ (n : ℕ). Tells (bytesWrote (Granted place) n (s .totals .next)) m (loaded m place bytes)) whole
+        (commands-tell .load (s .windows) m lent address place (s .totals .next) bytes
+        (ap (loadJudged (s .windows) address) whole ∙ granted))
+
+    by-loading : (there spent : Bool) → (there ≡ true → length bytes ≡ size) → isSpent (s .totals) ≡ spent
+        → Shown m (loading there spent) (accepts (loading there spent) loads)
+    unfolding pick
+    by-loading false spent whole e = idle-shown m (stopped refusal.Missing s leaving m) (record { wrote = refl; memory = refl })
+    by-loading true true whole e = idle-shown m (stopped refusal.Number s leaving m) (record { wrote = refl; memory = refl })
+    by-loading true false whole e =
+        record {
+          agrees = agrees-one _ _ (loadEffect place bytes) (omega arith, ap (λ (n : ℕ). 8 * n) (sym (whole refl))) refl;
+          fits = fit-one _ _ (leb-false _ _ e);
+          tells = load-tells (whole refl);
+        }
+
+    load-at-shown : Shown m (loadAt s m image address size place) (accepts (loadAt s m image address size place) loads)
+    unfolding loadAt
+    load-at-shown = by-loading (present image (s .offset + 12) ((size + 3) / 4)) (isSpent (s .totals)) (whole-data (s .offset + 12) size) refl
+
+  -- a load, by its judgement
+  load-shown : (address size : ℕ) (j : Judged) (past : Bool) → loadJudged (s .windows) address size ≡ j → length m ≡ sumOf (s .windows)
+      → Shown m (loadJudgedAs s m image address size (barred past refusal.Overflow j))
+      (accepts (loadJudgedAs s m image address size (barred past refusal.Overflow j))
+      (judgedOne (s .totals .next) j (λ place. loadEffect place (bytesAt image (s .offset + 12) size))))
+  unfolding pick
+  load-shown address size (Refused q) past e lent = idle-choice m (stopped q s leaving m) (eqb (codeOf q) 0) (record { wrote = refl; memory = refl })
+  load-shown address size (Granted place) true e lent = idle-shown m (stopped refusal.Overflow s leaving m) (record { wrote = refl; memory = refl })
+  load-shown address size (Granted place) false e lent = load-at-shown address size place e lent
+
+  -- an answer that tells nothing where it is accepted tells nothing
+  none-after : (happened : Happening) (done : Done) (n : ℕ) → after s happened noneWrote done n .wrote ≡ noneWrote
+  unfolding after
+  none-after happened done n = of-choice (λ (a : Called). a .wrote ≡ noneWrote) _ (λ e. refl) (λ e. refl)
+
+  -- a fill, by its judgement and the two refusals after it
+  module _ (address size kind pattern : ℕ) where
+    abbrev fills : Judged → List Numbered
+    fills j = judgedOne (s .totals .next) j (λ place. fillEffect place size (unitOf kind) pattern)
+
+    abbrev filling : Judged → CallOutcome
+    filling j = fillJudgedAs s m address size kind pattern j
+
+    fill-refused : (q : Refusal) → Idle m (filling (Refused q))
+    unfolding fillMemory
+    fill-refused q = record { wrote = none-after _ _ 5; memory = refl }
+
+    fill-shown : (j : Judged) (past spent : Bool) → isSpent (s .totals) ≡ spent → fillJudged (s .windows) address size kind ≡ j
+        → length m ≡ sumOf (s .windows)
+        → Shown m (filling (barred spent refusal.Number (barred past refusal.Overflow j)))
+        (accepts (filling (barred spent refusal.Number (barred past refusal.Overflow j))) (fills j))
+    unfolding pick after fillDone
+    fill-shown (Refused q) past spent e f lent = idle-choice m (filling (Refused q)) (eqb (codeOf (filling (Refused q) .answer .refusal)) 0) (fill-refused q)
+    fill-shown (Granted place) true spent e f lent = idle-shown m (filling (Refused refusal.Overflow)) (fill-refused refusal.Overflow)
+    fill-shown (Granted place) false true e f lent = idle-shown m (filling (Refused refusal.Number)) (fill-refused refusal.Number)
+    fill-shown (Granted place) false false e f lent =
+        record {
+          agrees = agrees-one _ _ _ (fill-reports (s .windows) address size kind pattern place (s .totals .next) f) refl;
+          fits = fit-one _ _ (leb-false _ _ e);
+          tells = commands-tell .fill (s .windows) m lent address size kind pattern place (s .totals .next) f;
+        }
+
+  -- a setting, likewise
+  module _ (word address value delay : ℕ) where
+    abbrev sets : Judged → List Numbered
+    sets j = judgedOne (s .totals .next) j (λ place. settingEffect place (shapeOf word) value)
+
+    abbrev setting : Judged → CallOutcome
+    setting j = settingJudgedAs s m word value delay j
+
+    setting-refused : (q : Refusal) → Idle m (setting (Refused q))
+    unfolding settingMemory
+    setting-refused q = record { wrote = none-after _ _ 5; memory = refl }
+
+    setting-shown : (j : Judged) (spent : Bool) → isSpent (s .totals) ≡ spent → settingJudged (s .windows) word address value ≡ j
+        → length m ≡ sumOf (s .windows)
+        → Shown m (setting (barred spent refusal.Number j)) (accepts (setting (barred spent refusal.Number j)) (sets j))
+    unfolding pick after settingDone
+    setting-shown (Refused q) spent e f lent = idle-choice m (setting (Refused q)) (eqb (codeOf (setting (Refused q) .answer .refusal)) 0) (setting-refused q)
+    setting-shown (Granted place) true e f lent = idle-shown m (setting (Refused refusal.Number)) (setting-refused refusal.Number)
+    setting-shown (Granted place) false e f lent =
+        record {
+          agrees = agrees-shape place value (s .totals .next) (shapeOf word);
+          fits = fit-one _ _ (leb-false _ _ e);
+          tells = commands-tell .setting (s .windows) m lent word address value place (s .totals .next) f;
+        }
+
+  -- a Request tells nothing
+  none-sought : (to : Sought) → soughtAs s to .wrote ≡ noneWrote
+  none-sought (sought.To offset) = refl
+  none-sought (sought.Refused q) = refl
+
+  none-requested : (expected seek : ℕ) → requested s expected seek .wrote ≡ noneWrote
+  unfolding requested
+  none-requested expected seek =
+      of-choice (λ (a : Called). a .wrote ≡ noneWrote) _ (λ e. refl)
+      (λ e. of-choice (λ (a : Called). a .wrote ≡ noneWrote) _ (λ l. refl) (λ l. none-sought (soughtFrom (s .offset) seek)))
+
+  command-shown : (c : Command) → length m ≡ sumOf (s .windows) → Shown m (performed c s m image) (accepts (performed c s m image) (acceptedCommand c s image))
+  command-shown command.Load lent = load-shown (argument s image 0) (argument s image 1) _ _ refl lent
+  command-shown command.Fill lent = fill-shown (argument s image 0) (argument s image 1) (argument s image 2) (argument s image 3) _ _ _ refl refl lent
+  command-shown command.BootTable lent = setting-shown (argument s image 0) (argument s image 1) (argument s image 2) (argument s image 3) _ _ refl refl lent
+  command-shown command.Enable lent = idle-choice m _ _ (record { wrote = refl; memory = refl })
+  command-shown command.Disable lent = idle-choice m _ _ (record { wrote = refl; memory = refl })
+  command-shown command.Request lent = idle-choice m _ _ (record { wrote = none-requested _ _; memory = refl })
+  command-shown command.StartOver lent = idle-choice m _ _ (record { wrote = refl; memory = refl })
+  command-shown command.JumpAndClose lent = idle-choice m _ _ (record { wrote = none-after _ _ _; memory = refl })
+  command-shown command.Ping lent = idle-choice m _ _ (record { wrote = refl; memory = refl })
+  command-shown command.SequentialRead lent = idle-choice m _ _ (record { wrote = refl; memory = refl })
+
+module _ (s : Session) (m image : List ℕ) where
+  -- a command with its words there; that they were fetched is nothing to its history
+  fetched-shown : (c : Command) (n : ℕ) → length m ≡ sumOf (s .windows)
+      → Shown m (performed c (fetching n s) m image) (accepts (performed c (fetching n s) m image) (acceptedCommand c s image))
+  unfolding argument
+  fetched-shown c n lent = subst (λ (cs : List Numbered). Shown m (performed c (fetching n s) m image) (accepts (performed c (fetching n s) m image) cs))
+      (same c) (command-shown (fetching n s) m image c lent)
+    where
+      same : (c : Command) → acceptedCommand c (fetching n s) image ≡ acceptedCommand c s image
+      same command.Load = refl
+      same command.Fill = refl
+      same command.BootTable = refl
+      same command.Enable = refl
+      same command.Disable = refl
+      same command.Request = refl
+      same command.StartOver = refl
+      same command.JumpAndClose = refl
+      same command.Ping = refl
+      same command.SequentialRead = refl
+
+  -- what the table finds
+  abbrev missing : CallOutcome
+  missing = stopped refusal.Missing (fetching (1 + wordsFrom image (s .offset + 4)) s) leaving m
+
+  by-words : (c : Command) (words : ℕ) (there : Bool) → length m ≡ sumOf (s .windows)
+      → Shown m (pick (not there) missing (performed c (fetching (1 + words) s) m image))
+      (accepts (pick (not there) missing (performed c (fetching (1 + words) s) m image)) (acceptedCommand c s image))
+  unfolding pick
+  by-words c words true lent = fetched-shown c (1 + words) lent
+  by-words c words false lent = idle-shown m missing (record { wrote = refl; memory = refl })
+
+  row-shown : (found : Found) → length m ≡ sumOf (s .windows) → Shown m (atRow s m image found) (accepts (atRow s m image found) (acceptedRow found s image))
+  row-shown Unknown lent = idle-choice m _ _ (record { wrote = refl; memory = refl })
+  row-shown Retired lent = idle-choice m _ _ (record { wrote = refl; memory = refl })
+  row-shown (Known c words) lent = by-words c words (present image (s .offset + 4) words) lent
+
+  -- the call by its four tests
+  abbrev found : Found
+  found = lookedUp (wordAt image (s .offset)) Flash (s .dialect)
+
+  abbrev tested : Bool → Bool → Bool → Bool → CallOutcome
+  tested ended right good there =
+      pick ended (unchanged refusal.Ended s leaving m)
+      (pick (not right) (unchanged refusal.Memory s leaving m)
+      (pick (not good) (unchanged refusal.Image s leaving m)
+      (pick (not there) (stopped refusal.Missing s leaving m) (atRow s m image found))))
+
+  by-tests : (ended right good there : Bool) → (right ≡ true → length m ≡ sumOf (s .windows))
+      → Shown m (tested ended right good there) (accepts (tested ended right good there) (acceptedRow found s image))
+  unfolding pick
+  by-tests true right good there lent = idle-shown m (unchanged refusal.Ended s leaving m) (record { wrote = refl; memory = refl })
+  by-tests false false good there lent = idle-shown m (unchanged refusal.Memory s leaving m) (record { wrote = refl; memory = refl })
+  by-tests false true false there lent = idle-shown m (unchanged refusal.Image s leaving m) (record { wrote = refl; memory = refl })
+  by-tests false true true false lent = idle-shown m (stopped refusal.Missing s leaving m) (record { wrote = refl; memory = refl })
+  by-tests false true true true lent = row-shown found (lent refl)
+
+  call-shown : Shown m (stepOf s m image) (callHistory s m image)
+  unfolding stepOf callHistory
+  call-shown =
+      by-tests (s .ended) (eqb (length m) (sumOf (s .windows))) (goodLength (length image) && eqb (length image) (s .length)) (present image (s .offset) 1)
+      (λ e. eqb-true _ _ e)
+
+stamps-law : (places entries : List ℕ) (s : Session) (calls : List Lent) → entriesAfter places entries s calls ≡ stampedAll entries places (history s calls)
+unfolding entriesAfter history stampedAll
+stamps-law places entries s [] = refl
+stamps-law places entries s (lent ∷ rest) =
+    stamps-law places (callEntries places entries s (lent .memory) (lent .image)) (answerTo s lent .session) rest
+    ∙ ap (λ (es : List ℕ). stampedAll es places (history (answerTo s lent .session) rest)) (call-shown s (lent .memory) (lent .image) .agrees entries places)
+    ∙ sym (history-laws .stamped-on entries places (callHistory s (lent .memory) (lent .image)) (history (answerTo s lent .session) rest))
+
+fit-law : (s : Session) (calls : List Lent) → numbersFit (history s calls) ≡ true
+unfolding history numbersFit
+fit-law s [] = refl
+fit-law s (lent ∷ rest) =
+    fit-both (callHistory s (lent .memory) (lent .image)) (history (answerTo s lent .session) rest)
+    (call-shown s (lent .memory) (lent .image) .fits) (fit-law (answerTo s lent .session) rest)
+
+-- the calls of a run, one after the other
+module _ (places image : List ℕ) where
+  by-going : (more : Bool) (left : List ℕ) (next : Session) (after : List ℕ) (calls : List Lent) → after ≡ entriesAfter places left next calls
+      → pick more after left ≡ entriesAfter places left next (pick more calls [])
+  unfolding pick entriesAfter
+  by-going true left next after calls e = e
+  by-going false left next after calls e = refl
+
+  run-on : (n : ℕ) (entries : List ℕ) (s : Session) (m : List ℕ)
+      → entriesOn n places entries (stepOf s m image) image ≡ entriesAfter places entries s (lentOn n s m image)
+  unfolding stampsOn entriesAfter lentOn
+  run-on zero entries s m = refl
+  run-on (suc n) entries s m =
+      by-going (goesOn (stepOf s m image .answer)) (callEntries places entries s m image) (stepOf s m image .answer .session) _ _
+      (run-on n (callEntries places entries s m image) (stepOf s m image .answer .session) (stepOf s m image .memory))
+
+pub calls-tell : CallsTell
+unfolding runEntries
+calls-tell =
+    record {
+      stamps = stamps-law;
+      fit = fit-law;
+      told = λ s calls places j k h l.
+          ap (λ (es : List ℕ). entryAt es j k) (stamps-law places (replicate (64 * length places) 0) s calls)
+          ∙ history-laws .told places (history s calls) (fit-law s calls) j k h l;
+      run = λ places entries s m image. run-on places image (enough s) entries s m;
+      memory = λ s m image. call-shown s m image .tells;
+    }

@@ -1,0 +1,5 @@
+pub mod Agreeing
+pub mod CallHistory
+pub mod History
+pub mod UnitHistory
+pub mod Words

@@ -1,0 +1,4 @@
+pub mod Accepted
+pub mod CallHistory
+pub mod History
+pub mod UnitHistory

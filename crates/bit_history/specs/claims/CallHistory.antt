@@ -1,0 +1,93 @@
+-- The history of a flash session (02, request 6), from the commands that its calls accept and how they are judged: the loads, fills and settings in order, abandoned ones too.
+-- And what its entries and its memory have to do with it.
+use Prim.Native.Nat.{ℕ, zero, suc, _+_, _*_, _<_}
+use mathlib.Core.Bool.{true}
+use mathlib.Core.List.{List, [], _∷_, _++_}
+use mathlib.Core.Path.{_≡_}
+use lib.Dec.{eqb}
+use lib.ListN.{length, replicate}
+use Rattle.words.specs.rules.Bytes.{bytesAt, wordAt}
+use Rattle.words.specs.rules.Choice.{pick}
+use Rattle.opcodes.specs.rules.Answers.{codeOf}
+use Rattle.opcodes.specs.rules.Opcodes.{lookedUp}
+use Rattle.opcodes.specs.declared.Command.{Command}
+use Rattle.opcodes.specs.declared.Command.the-variants as command
+use Rattle.opcodes.specs.declared.Found.{Found}
+use Rattle.opcodes.specs.declared.Found.the-variants.{Known, Retired, Unknown}
+use Rattle.opcodes.specs.declared.Mode.the-variants.{Flash}
+use Rattle.commands.specs.rules.Commands.{loadJudged, unitOf, fillJudged, shapeOf, settingJudged}
+use Rattle.law_effects.specs.claims.Effects.{loadEffect, fillEffect, settingEffect}
+use Rattle.law_effects.specs.claims.Wrote.{Tells}
+use Rattle.bit_stamps.specs.rules.Stamps.{entryAt}
+use Rattle.bit_history.specs.claims.History.{Numbered, lastNumber, numbersFit, stampedAll, chosenBit}
+use Rattle.flash.specs.rules.Step.{argument, stepOf}
+use Rattle.flash.specs.claims.Totals.{Lent, answerTo}
+use Rattle.flash.specs.declared.Session.{Session}
+use Rattle.flash_runs.specs.rules.Run.{goesOn, enough}
+use Rattle.bit_watch.specs.rules.Watched.{callEntries, runEntries}
+use Rattle.bit_history.specs.claims.Accepted.{judgedOne}
+
+-- an accepted command: a load, a fill or a setting
+abbrev pub acceptedCommand : Command → Session → List ℕ → List Numbered
+acceptedCommand command.Load s image =
+    judgedOne (s .totals .next) (loadJudged (s .windows) (argument s image 0) (argument s image 1))
+    (λ place. loadEffect place (bytesAt image (s .offset + 12) (argument s image 1)))
+acceptedCommand command.Fill s image =
+    judgedOne (s .totals .next) (fillJudged (s .windows) (argument s image 0) (argument s image 1) (argument s image 2))
+    (λ place. fillEffect place (argument s image 1) (unitOf (argument s image 2)) (argument s image 3))
+acceptedCommand command.BootTable s image =
+    judgedOne (s .totals .next) (settingJudged (s .windows) (argument s image 0) (argument s image 1) (argument s image 2))
+    (λ place. settingEffect place (shapeOf (argument s image 0)) (argument s image 2))
+acceptedCommand command.Enable s image = []
+acceptedCommand command.Disable s image = []
+acceptedCommand command.Request s image = []
+acceptedCommand command.StartOver s image = []
+acceptedCommand command.JumpAndClose s image = []
+acceptedCommand command.Ping s image = []
+acceptedCommand command.SequentialRead s image = []
+
+-- by what the table finds at the session's offset
+abbrev pub acceptedRow : Found → Session → List ℕ → List Numbered
+acceptedRow Unknown s image = []
+acceptedRow Retired s image = []
+acceptedRow (Known command words) s image = acceptedCommand command s image
+
+-- what a call adds: the command that it accepts
+unfoldable pub callHistory : Session → List ℕ → List ℕ → List Numbered
+callHistory s m image =
+    pick (eqb (codeOf (stepOf s m image .answer .refusal)) 0) (acceptedRow (lookedUp (wordAt image (s .offset)) Flash (s .dialect)) s image) []
+
+-- the history of any calls, whatever is lent to each
+unfoldable pub history : Session → List Lent → List Numbered
+history s [] = []
+history s (lent ∷ rest) = callHistory s (lent .memory) (lent .image) ++ history (answerTo s lent .session) rest
+
+-- the entries after them, each a watched call
+unfoldable pub entriesAfter : List ℕ → List ℕ → Session → List Lent → List ℕ
+entriesAfter places entries s [] = entries
+entriesAfter places entries s (lent ∷ rest) =
+    entriesAfter places (callEntries places entries s (lent .memory) (lent .image)) (answerTo s lent .session) rest
+
+-- what is lent to the calls of a run: one unchanged image, and the memory as the call before left it; one call, and at most n more while the session goes on
+unfoldable pub lentOn : ℕ → Session → List ℕ → List ℕ → List Lent
+lentOn zero s m image = record { memory = m; image = image } ∷ []
+lentOn (suc n) s m image =
+    record { memory = m; image = image }
+    ∷ pick (goesOn (stepOf s m image .answer)) (lentOn n (stepOf s m image .answer .session) (stepOf s m image .memory) image) []
+
+-- to all of them
+abbrev pub callsOf : Session → List ℕ → List ℕ → List Lent
+callsOf s m image = lentOn (enough s) s m image
+
+pub record CallsTell : Type 0 where
+  -- the entries are those that the history stamps
+  pub stamps : (places entries : List ℕ) (s : Session) (calls : List Lent) → entriesAfter places entries s calls ≡ stampedAll entries places (history s calls)
+  -- each of its numbers is below 65,536
+  pub fit : (s : Session) (calls : List Lent) → numbersFit (history s calls) ≡ true
+  -- so from entries that are all 0, entry k of chosen word j is the number of the last command that wrote its bit, 0 where none did
+  pub told : (s : Session) (calls : List Lent) (places : List ℕ) (j k : ℕ) → j < length places → k < 32
+      → entryAt (entriesAfter places (replicate (64 * length places) 0) s calls) j k ≡ lastNumber (history s calls) (chosenBit places j k)
+  -- a run's entries are those of its calls
+  pub run : (places entries : List ℕ) (s : Session) (m image : List ℕ) → runEntries places entries s m image ≡ entriesAfter places entries s (callsOf s m image)
+  -- a call gives memory exactly the bits that it tells
+  pub memory : (s : Session) (m image : List ℕ) → Tells (stepOf s m image .answer .wrote) m (stepOf s m image .memory)

@@ -1,0 +1,61 @@
+-- `bit_report::first_field` meets its contract: the lowest bit of those that are left is the lowest of all.
+use borrow.Author.Needs.{needs}
+use mathlib.Core.Path.{_≡_, sym, ap, _∙_}
+use Prim.Native.Nat.{_-_}
+use Rattle.field_register.specs.declared.FoundLine.{FoundLine}
+use Rattle.bit_report.specs.rules.Fields.{hasField}
+use Rattle.bit_report.specs.rules.Lowest.{lowestIn}
+use Rattle.bit_report.proofs.Lowest.{lowest-none, lowest-here, lowest-on}
+use Rattle.bit_report.proofs.first_field.Statement.{statement}
+use Rattle.bit_report.proofs.first_field.Tie as tie
+
+abbrev Inv-loop : tie.InvT-loop
+Inv-loop names word from to i₀ i = lowestIn (hasField names word) i to ≡ lowestIn (hasField names word) from to
+
+abbrev μ-loop : tie.MeasureT-loop
+μ-loop names word from to i₀ i = to - i
+
+loop-holds : tie.Need-loop-holds Inv-loop μ-loop
+loop-holds c = search needs
+
+field-at-requires : tie.Need-field-at-requires Inv-loop μ-loop
+field-at-requires c κs = search needs
+
+returns : tie.Need-returns Inv-loop μ-loop
+returns c =
+    let turn = c .before .before .before in
+    let a = turn .before .args in
+    lowest-here (hasField (a .names) (a .word)) (turn .loop .i) (a .to) (search needs) (ap (λ (f : FoundLine). f .found) (sym (c .before .field-at .ensures)) ∙ c .if1 .taken)
+    ∙ turn .loop .inv
+
+add-i : tie.Need-add-i Inv-loop μ-loop
+add-i c = search needs
+
+loop-less : tie.Need-loop-less Inv-loop μ-loop
+loop-less c = search needs
+
+loop-again : tie.Need-loop-again Inv-loop μ-loop
+loop-again c =
+    let turn = c .before .before .before in
+    let a = turn .before .args in
+    lowest-on (hasField (a .names) (a .word)) (turn .loop .i) (a .to) (search needs) (ap (λ (f : FoundLine). f .found) (sym (c .before .field-at .ensures)) ∙ c .if1 .left)
+    ∙ turn .loop .inv
+
+returns-2 : tie.Need-returns-2 Inv-loop μ-loop
+returns-2 c =
+    let a = c .before .before .args in
+    lowest-none (hasField (a .names) (a .word)) (c .before .loop .i) (a .to) (search needs) ∙ c .before .loop .inv
+
+pub first-field-spec : {M : Type 1} → statement M
+first-field-spec =
+    tie.close
+    (tie.spec
+    Inv-loop
+    μ-loop
+    loop-holds
+    field-at-requires
+    returns
+    add-i
+    loop-less
+    loop-again
+    returns-2)

@@ -1,2 +1,0 @@
-pub mod Ceiling
-pub mod Fetched

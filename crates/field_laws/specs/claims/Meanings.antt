@@ -1,0 +1,109 @@
+-- What a ward may rely on in a register that was read (02, request 8): each question has one answer, the two questions agree, and a command does what it says.
+use Prim.Native.Nat.{ℕ, _≤_, _<_, max}
+use mathlib.Core.Bool.{true, false}
+use mathlib.Core.List.{List, []}
+use mathlib.Core.Path.{_≡_}
+use lib.ListN.{length, getD}
+use Rattle.words.specs.rules.Bits.{within}
+use Rattle.windows.specs.rules.Window.{sumOf, placeOf}
+use Rattle.windows.specs.declared.Window.{Window}
+use Rattle.windows.specs.declared.Place.the-variants.{At}
+use Rattle.windows.specs.declared.Right.the-variants.{Set}
+use Rattle.opcodes.specs.rules.Opcodes.{lookedUp}
+use Rattle.opcodes.specs.declared.Command.the-variants.{BootTable}
+use Rattle.opcodes.specs.declared.Found.the-variants.{Known}
+use Rattle.opcodes.specs.declared.Dialect.{Dialect}
+use Rattle.opcodes.specs.declared.Mode.{Mode}
+use Rattle.commands.specs.rules.Commands.{startOf, settingJudged, settingMemory}
+use Rattle.commands.specs.declared.Judged.the-variants.{Granted}
+use Rattle.law_effects.specs.claims.Fields.{fieldWidth, Holds}
+use Rattle.field_lines.specs.rules.Clashes.{inForce, hasBit, clash}
+use Rattle.field_lines.specs.rules.Lines.{noLine, inOrder}
+use Rattle.field_lines.specs.rules.Text.{same}
+use Rattle.field_lines.specs.declared.FieldLine.{FieldLine}
+use Rattle.field_register.specs.rules.Commands.{commandFor}
+use Rattle.field_register.specs.rules.Questions.{answers, found, noneFound, asked, fieldOf, lineOfName, stretchFrom}
+use Rattle.field_register.specs.rules.Reading.{linesIn, readingOf}
+use Rattle.field_register.specs.declared.FieldRefusal.the-variants.{None}
+use Rattle.field_register.specs.declared.Register.{Register}
+use Rattle.field_register.specs.declared.Subject.{Subject}
+
+-- the register of a text, empty where the text is refused
+abbrev pub registerOf : List ℕ → Register
+registerOf text = readingOf text .register
+
+-- its lines, and the one with a number from 0 on
+abbrev pub linesOf : List ℕ → List FieldLine
+linesOf text = linesIn (registerOf text)
+
+abbrev pub nth : List FieldLine → ℕ → FieldLine
+nth ls i = getD ls i noLine
+
+-- two lines clash exactly where a release has both and they share a name, or a bit of a word
+pub record ClashMeans : Type 0 where
+  pub by-name : (a b : FieldLine) (release : ℕ) → inForce a release ≡ true → inForce b release ≡ true → same (a .name) (b .name) ≡ true
+      → clash a b ≡ true
+  pub by-bit : (a b : FieldLine) (release word bit : ℕ) → inForce a release ≡ true → inForce b release ≡ true
+      → hasBit a word bit ≡ true → hasBit b word bit ≡ true → clash a b ≡ true
+  -- the later of their first releases has both, and where the names differ, the higher of their first bits is in both
+  pub only-release : (a b : FieldLine) → inOrder a ≡ true → inOrder b ≡ true → clash a b ≡ true
+      → (inForce a (max (a .since) (b .since)) ≡ true) × (inForce b (max (a .since) (b .since)) ≡ true)
+  pub only-bit : (a b : FieldLine) → inOrder a ≡ true → inOrder b ≡ true → clash a b ≡ true → same (a .name) (b .name) ≡ false
+      → (hasBit a (a .word) (max (a .start) (b .start)) ≡ true) × (hasBit b (a .word) (max (a .start) (b .start)) ≡ true)
+
+-- a bit and a release have at most one line, and so has a name and a release
+pub record OneAnswer : Type 0 where
+  pub at-most-one : (text : List ℕ) (s : Subject) (release i j : ℕ) → i < length (linesOf text) → j < length (linesOf text)
+      → answers s release (nth (linesOf text) i) ≡ true → answers s release (nth (linesOf text) j) ≡ true → i ≡ j
+  -- so that line is the answer
+  pub the-answer : (text : List ℕ) (s : Subject) (release i : ℕ) → i < length (linesOf text)
+      → answers s release (nth (linesOf text) i) ≡ true → asked (registerOf text) s release ≡ found (nth (linesOf text) i)
+  -- and 28 is given where no line answers
+  pub no-answer : (text : List ℕ) (s : Subject) (release i : ℕ) → i < length (linesOf text) → asked (registerOf text) s release ≡ noneFound
+      → answers s release (nth (linesOf text) i) ≡ false
+  -- a refused text leaves no line, so every question is answered with 28
+  pub refused : (text : List ℕ) → (readingOf text .refusal ≡ None → ⊥) → linesOf text ≡ []
+  pub refused-none : (text : List ℕ) (s : Subject) (release : ℕ) → (readingOf text .refusal ≡ None → ⊥) → asked (registerOf text) s release ≡ noneFound
+
+-- a stretch of releases that begins at a release, up to its last one or with no end, has one answer
+pub record StretchMeans : Type 0 where
+  pub one-answer-through : (text : List ℕ) (s : Subject) (release q : ℕ) → release ≤ q → 1 ≤ release
+      → ((stretchFrom (registerOf text) s release .last ≡ 0 → ⊥) → q ≤ stretchFrom (registerOf text) s release .last)
+      → asked (registerOf text) s q ≡ stretchFrom (registerOf text) s release .found
+
+-- the words of a command: which bits of which word it writes
+abbrev pub kindIn : List ℕ → ℕ
+kindIn words = getD words 1 0
+
+abbrev pub addressIn : List ℕ → ℕ
+addressIn words = getD words 2 0
+
+abbrev pub writesBit : List ℕ → ℕ → ℕ → Type 0
+writesBit words word bit = (word ≡ addressIn words) × (within (startOf (kindIn words)) (fieldWidth (kindIn words)) bit ≡ true)
+
+-- the command that was made for a name, a release and a value
+pub record Made (text name : List ℕ) (release value : ℕ) (words : List ℕ) : Type 0 where
+  pub made : commandFor (registerOf text) name release value ≡ record { refusal = None; words = words }
+
+pub record QuestionsAgree : Type 0 where
+  -- every bit that it writes is that field in that release
+  pub written : (text name : List ℕ) (release value : ℕ) (words : List ℕ) → Made text name release value words
+      → (word bit : ℕ) → writesBit words word bit → fieldOf (registerOf text) word bit release ≡ lineOfName (registerOf text) name release
+  -- and no other bit is
+  pub not-written : (text name : List ℕ) (release value : ℕ) (words : List ℕ) → Made text name release value words
+      → (word bit : ℕ) → (writesBit words word bit → ⊥) → fieldOf (registerOf text) word bit release ≡ lineOfName (registerOf text) name release → ⊥
+
+-- the five words of a Boot Table command, in either mode and dialect, with no delay
+pub record IsBootTable (words : List ℕ) (value : ℕ) : Type 0 where
+  pub opcode : (mode : Mode) (dialect : Dialect) → lookedUp (getD words 0 0) mode dialect ≡ Known BootTable 4
+  pub data-word : getD words 3 0 ≡ value
+  pub no-delay : getD words 4 0 ≡ 0
+
+pub record DoesWhatItSays : Type 0 where
+  pub boot-table : (text name : List ℕ) (release value : ℕ) (words : List ℕ) → Made text name release value words → IsBootTable words value
+  -- on a loader with a set window over the word it is accepted; the field then holds the value, and every other bit is kept
+  pub accepted : (text name : List ℕ) (release value : ℕ) (words : List ℕ) → Made text name release value words
+      → (windows : List Window) (memory : List ℕ) (place : ℕ) → length memory ≡ sumOf windows
+      → placeOf windows Set (addressIn words) 4 ≡ At place
+      → (settingJudged windows (kindIn words) (addressIn words) value ≡ Granted place)
+      × Holds (kindIn words) place value memory (settingMemory (Granted place) memory (kindIn words) value)

@@ -1,0 +1,4 @@
+pub mod Calls
+pub mod Ceiling
+pub mod Ends
+pub mod Fetched

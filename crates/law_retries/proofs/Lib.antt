@@ -1,0 +1,11 @@
+pub mod Accepted
+pub mod Beginnings
+pub mod Covered
+pub mod Entries
+pub mod EntryInstance
+pub mod EntryWords
+pub mod Instance
+pub mod Reached
+pub mod Retries
+pub mod Several
+pub mod Taking

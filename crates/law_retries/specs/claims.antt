@@ -1,0 +1,5 @@
+pub mod Entries
+pub mod EntryExample
+pub mod Example
+pub mod Pieces
+pub mod Retries

@@ -1,0 +1,152 @@
+-- A worked instance on either line: two fields of one word and a load, tried, asked about and abandoned, then sent again with other data; and
+-- counterexamples on the line of bytes.
+use Prim.Native.Nat.{ℕ}
+use mathlib.Core.Bool.{Bool, true, false}
+use mathlib.Core.List.{List, [], _∷_, _++_}
+use mathlib.Core.Path.{_≡_}
+use lib.ListN.{replicate}
+use Rattle.windows.specs.rules.Map.{zeroWindow}
+use Rattle.windows.specs.declared.Window.{Window}
+use Rattle.opcodes.specs.declared.Dialect.{Dialect}
+use Rattle.opcodes.specs.declared.Dialect.the-variants.{Am17xx, Dm648}
+use Rattle.opcodes.specs.declared.Event.the-variants.{Nothing}
+use Rattle.opcodes.specs.declared.Refusal.the-variants.{Memory}
+use Rattle.ledger.specs.claims.Attempts.{Level}
+use Rattle.ledger.specs.rules.Totals.{standing, nothing as zero}
+use Rattle.ledger.specs.declared.Standing.{Standing}
+use Rattle.sent.specs.rules.Bus.{startUnit, unitsOf}
+use Rattle.sent.specs.rules.Feeding.{State, checksum, totals, heard}
+use Rattle.machine.specs.rules.Replies.{silence}
+use Rattle.sent.specs.declared.Bus.{Bus}
+use Rattle.sent.specs.declared.Bus.the-variants.{Bytes}
+use Rattle.law_retries.specs.claims.Pieces.{Piece, load, setting, enableOpcode, requestOpcode, wordsOf, allWords, Covers}
+use Rattle.law_retries.specs.claims.Retries.{after, Awaits, Begins, sinceOpening, Reached, AtStart, JustAfter, Attempt, attemptWords, NoTrace, Accepted, Retried}
+
+-- a window of eight bytes, and what they hold
+abbrev pub windows : List Window
+windows = record { first = 0x80000000; length = 8; rights = 7 } ∷ replicate 7 zeroWindow
+
+abbrev pub before : List ℕ
+before = 0x7F ∷ 0 ∷ 0 ∷ 0 ∷ 0xAA ∷ 0xAA ∷ 0xAA ∷ 0xAA ∷ []
+
+-- a session on them, opened and started; it numbers its commands, or does not
+unfoldable pub startedTo : Bool → Bus → Dialect → State
+startedTo numbers bus dialect = sinceOpening numbers bus dialect 1 windows before (startUnit bus ∷ [])
+
+-- with the checksum on
+unfoldable pub startTo : Bool → Bus → Dialect → State
+startTo numbers bus dialect = sinceOpening numbers bus dialect 1 windows before (startUnit bus ∷ unitsOf bus enableOpcode)
+
+-- those that number
+abbrev pub started : Bus → Dialect → State
+started bus dialect = startedTo true bus dialect
+
+abbrev pub start : Bus → Dialect → State
+start bus dialect = startTo true bus dialect
+
+-- a field of the first word, bits 8 to 11 of it, and three bytes from the second word on; the top byte of their word is a pad byte
+abbrev pub sent : ℕ → ℕ → ℕ → ℕ → List Piece
+sent field low high word = setting field 0x80000000 low 0 ∷ setting 0x000B0803 0x80000000 high 0 ∷ load 0x80000004 3 (word ∷ []) ∷ []
+
+-- the attempt, with bits 4 to 6, and the same with the data that were meant
+abbrev pub abandoned : Attempt
+abandoned = record { pieces = sent 0x00060403 2 0xF 0xEE030201; asked = true }
+
+abbrev pub repeated : List Piece
+repeated = sent 0x00060403 1 2 0xEE332211
+
+-- the totals after a load of three bytes
+abbrev pub oneLoad : Dialect → Standing
+oneLoad Am17xx = zero
+oneLoad Dm648 = standing 1 3
+
+-- the premises are met, from the opening on; the attempt changes memory; after the repeat nothing is left of it, one load is counted, and the next command is
+-- the fourth
+pub record Worked (bus : Bus) (dialect : Dialect) : Type 0 where
+  pub just-after : JustAfter bus (start bus dialect)
+  pub retried : Retried bus (start bus dialect) (attemptWords abandoned) (abandoned .pieces) repeated
+  pub no-trace : NoTrace bus (start bus dialect) (attemptWords abandoned) (allWords repeated)
+  pub after-attempt : after bus (start bus dialect) (attemptWords abandoned) .memory ≡ 0x2F ∷ 0x0F ∷ 0 ∷ 0 ∷ 1 ∷ 2 ∷ 3 ∷ 0xAA ∷ []
+  pub after-repeat : after bus (start bus dialect) (attemptWords abandoned ++ allWords repeated) .memory
+      ≡ 0x1F ∷ 0x02 ∷ 0 ∷ 0 ∷ 0x11 ∷ 0x22 ∷ 0x33 ∷ 0xAA ∷ []
+  pub never-tried : after bus (start bus dialect) (allWords repeated) .memory ≡ 0x1F ∷ 0x02 ∷ 0 ∷ 0 ∷ 0x11 ∷ 0x22 ∷ 0x33 ∷ 0xAA ∷ []
+  pub counted : totals (after bus (start bus dialect) (attemptWords abandoned ++ allWords repeated)) .now ≡ oneLoad dialect
+  pub numbered : totals (after bus (start bus dialect) (attemptWords abandoned ++ allWords repeated)) .next ≡ 4
+
+-- what follows misses bit 6 of the attempt's first field, and all else is met: the bit stays
+abbrev pub missing : List Piece
+missing = sent 0x00050403 1 2 0xEE332211
+
+pub record OneBitMissed : Type 0 where
+  pub begins : Begins (start Bytes Am17xx)
+  pub accepted : Accepted Bytes (start Bytes Am17xx) (attemptWords abandoned) (abandoned .pieces) missing
+  pub trace : NoTrace Bytes (start Bytes Am17xx) (attemptWords abandoned) (allWords missing) → ⊥
+
+-- an attempt begins after a load, so that the checksum is not 0, and all else is met (in AM17xx with no numbers kept, where the totals are level): Start-Over takes the load back from the checksum
+unfoldable pub middle : State
+middle = after Bytes (startTo false Bytes Am17xx) (wordsOf (load 0x80000004 3 (0xEE030201 ∷ [])))
+
+abbrev pub nothing : Attempt
+nothing = record { pieces = []; asked = false }
+
+pub record InTheMiddle : Type 0 where
+  pub awaits : Awaits middle
+  pub level : Level (totals middle)
+  pub accepted : Accepted Bytes middle (attemptWords nothing) [] repeated
+  pub covered : Covers windows [] repeated
+  pub trace : NoTrace Bytes middle (attemptWords nothing) (allWords repeated) → ⊥
+
+-- a Start-Over alone directly after a Request, and all else is met: it takes the load before that Request back from the totals
+unfoldable pub requested : State
+requested = after Bytes (startTo false Bytes Dm648) (wordsOf (load 0x80000004 3 (0xEE030201 ∷ [])) ++ (requestOpcode ∷ []))
+
+pub record StartOverAlone : Type 0 where
+  pub begins : Begins requested
+  pub accepted : Accepted Bytes requested (attemptWords nothing) [] repeated
+  pub covered : Covers windows [] repeated
+  pub trace : NoTrace Bytes requested (attemptWords nothing) (allWords repeated) → ⊥
+
+-- an attempt begins after a load with the checksum off, so that the totals are not the mark, no numbers are kept, and all else is met: Start-Over takes the load back from them
+unfoldable pub unmarked : State
+unmarked = after Bytes (startedTo false Bytes Dm648) (wordsOf (load 0x80000004 3 (0xEE030201 ∷ [])))
+
+pub record NotLevel : Type 0 where
+  pub awaits : Awaits unmarked
+  pub rewound : checksum unmarked ≡ 0
+  pub settled : totals unmarked .asked ≡ false
+  pub accepted : Accepted Bytes unmarked (attemptWords nothing) [] repeated
+  pub covered : Covers windows [] repeated
+  pub trace : NoTrace Bytes unmarked (attemptWords nothing) (allWords repeated) → ⊥
+
+-- an attempt begins after a setting with the checksum off, in AM17xx, so that the totals are the mark and the next number alone is not, and all else is met:
+-- Start-Over takes the setting's number back
+unfoldable pub setOnce : State
+setOnce = after Bytes (startedTo true Bytes Am17xx) (wordsOf (setting 0x00060403 0x80000000 2 0))
+
+pub record NumberNotLevel : Type 0 where
+  pub awaits : Awaits setOnce
+  pub rewound : checksum setOnce ≡ 0
+  pub settled : totals setOnce .asked ≡ false
+  pub marked : totals setOnce .now ≡ totals setOnce .mark
+  pub accepted : Accepted Bytes setOnce (attemptWords nothing) [] repeated
+  pub covered : Covers windows [] repeated
+  pub trace : NoTrace Bytes setOnce (attemptWords nothing) (allWords repeated) → ⊥
+
+-- nothing follows an attempt that begins at the start unit: that an opcode has been acknowledged is a trace
+pub record NothingFollows : Type 0 where
+  pub just-after : JustAfter Bytes (started Bytes Am17xx)
+  pub begins : Begins (started Bytes Am17xx)
+  pub accepted : Accepted Bytes (started Bytes Am17xx) (attemptWords nothing) [] []
+  pub trace : NoTrace Bytes (started Bytes Am17xx) (attemptWords nothing) [] → ⊥
+
+-- a byte of memory is missing, and all else is met: the start unit is refused with 2, not answered
+abbrev pub shorter : List ℕ
+shorter = 0x7F ∷ 0 ∷ 0 ∷ 0 ∷ 0xAA ∷ 0xAA ∷ 0xAA ∷ []
+
+unfoldable pub short : State
+short = sinceOpening true Bytes Am17xx 1 windows shorter []
+
+pub record MemoryTooShort : Type 0 where
+  pub reached : Reached Bytes short
+  pub at-start : AtStart short
+  pub refused : heard Bytes short (startUnit Bytes) ≡ record { refusal = Memory; reply = silence; event = Nothing }

@@ -1,0 +1,4 @@
+pub mod Counting
+pub mod Every
+pub mod Words
+pub mod Wrote

@@ -1,3 +1,0 @@
-pub mod Example
-pub mod Pieces
-pub mod Retries

@@ -1,0 +1,4 @@
+pub mod Bus
+pub mod Feeding
+pub mod Line
+pub mod Opening

@@ -1,4 +1,0 @@
-pub mod Covered
-pub mod Instance
-pub mod Traces
-pub mod Words
