@@ -13,15 +13,14 @@ pub fn outcome(entered: bool, code: u8, at: u32) {
     } else {
         ais_printing::put(b"outcome=refused");
     }
-    ais_printing::put_number(b" code=", code as u32);
-    ais_printing::put_number(b" at=", at);
-    ais_printing::put(b"\n");
+    ais_printing::put_number(b" code=", code as u64);
+    ais_printing::put_number_line(b" at=", at as u64);
 }
 
 // The first and the last of some bits.
 fn put_bits(key: &[u8], start: u32, stop: u32) {
-    ais_printing::put_number(key, start);
-    ais_printing::put_number(b"..", stop);
+    ais_printing::put_number(key, start as u64);
+    ais_printing::put_number(b"..", stop as u64);
 }
 
 // The last bit before one.
@@ -45,8 +44,8 @@ fn put_deed(deed: Deed) {
 
 // A command by its number, its offset and what it is.
 fn put_command(number: u32, at: u32, deed: Deed) {
-    ais_printing::put_number(b" command=", number);
-    ais_printing::put_number(b" at=", at);
+    ais_printing::put_number(b" command=", number as u64);
+    ais_printing::put_number(b" at=", at as u64);
     put_deed(deed);
 }
 
@@ -65,7 +64,7 @@ fn put_part(image: &[u8], named: bool, address: u32, part: Part) {
     let told = part.told;
     let field = told.field;
     put_bits(b"bits=", part.start, part.stop);
-    ais_printing::put_number(b" value=", part.value);
+    ais_printing::put_number(b" value=", part.value as u64);
     if named {
         put_field(field);
     }
@@ -182,21 +181,9 @@ pub fn word(
     word: Word,
 ) {
     ais_printing::put_word(b"word=", word.address);
-    ais_printing::put_word(b" value=", value);
-    ais_printing::put(b"\n");
+    ais_printing::put_word_line(b" value=", value);
     put_parts(image, value, numbers, offsets, names, named, word);
     put_warnings(image, numbers, offsets, names, word);
-}
-
-// A register that is refused, by its number and the line.
-pub fn refused_register(number: u8, line: usize) {
-    ais_printing::put_number(b"refusal=", number as u32);
-    ais_printing::put(b" line ");
-    io::print_decimal(libc::STDOUT_FILENO, line as u64);
-    match number {
-        26 => ais_printing::put(b" of the register is malformed, or beyond the 200th\n"),
-        _ => ais_printing::put(b" of the register clashes with an earlier one\n"),
-    }
 }
 
 // Words that are refused.

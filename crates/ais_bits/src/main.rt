@@ -4,27 +4,14 @@ mod answers;
 
 ghost use Prim.Native.Nat.{_*_, _≤_};
 ghost use lib.ListN.{length};
+use ais_arguments::number_at;
 use bit_report::Names;
 use bit_report::Word;
-use field_lines::Number;
+use digits::Number;
 use words::Unit;
 
 fn usage() {
     ais_printing::put(b"usage: ais-bits [--register FILE RELEASE] FILE WORD..\n");
-}
-
-// A number given as an argument.
-fn number_at(i: usize) -> Number {
-    let mut room = [0u8; 16];
-    let n = os::arg(i, &mut room);
-    field_lines::given(&room[..n])
-}
-
-// Is the first argument the word that a register follows?
-fn is_named() -> bool {
-    let mut room = [0u8; 16];
-    let n = os::arg(1, &mut room);
-    check::same(&room[..n], b"register")
 }
 
 // One word more than may be chosen: with it they are refused, however many follow.
@@ -140,11 +127,12 @@ fn with_register(release: u32) {
     }
     let n = io::read_full(file, &mut room);
     libc::close(file);
-    let reading = field_register::read(&room[..n]);
+    let text = &room[..n];
+    let reading = field_register::read(text);
     let refusal = reading.refusal;
-    let number = refusal.code();
-    if number != 0 {
-        return answers::refused_register(number, reading.line);
+    let code = refusal.code();
+    if code != 0 {
+        return ais_printing::registers::put_refused(text, code, reading.line);
     }
     let register = reading.register;
     with_words(4, Names { register, release }, true);
@@ -166,7 +154,7 @@ fn with_no_register() {
 }
 
 fn main() {
-    if !is_named() {
+    if !ais_arguments::is_word(1, b"register") {
         return with_no_register();
     }
     let Number::Is(release) = number_at(3) else {

@@ -3,27 +3,17 @@ use checking::Report;
 use libc::STDIN_FILENO;
 use opcodes::Dialect;
 
-fn put_number(name: &[u8], value: u32) {
-    ais_printing::put_number(name, value);
-    ais_printing::put(b"\n");
-}
-
-fn put_word(name: &[u8], value: u32) {
-    ais_printing::put_word(name, value);
-    ais_printing::put(b"\n");
-}
-
 fn put_report(report: Report) {
     if report.entered {
         ais_printing::put(b"outcome=entered\n");
     } else {
         ais_printing::put(b"outcome=refused\n");
     }
-    put_number(b"code=", report.code as u32);
-    put_number(b"at=", report.at);
-    put_word(b"entry=", report.entry);
-    put_word(b"crc=", report.crc);
-    put_number(b"retries=", report.retries as u32);
+    ais_printing::put_number_line(b"code=", report.code as u64);
+    ais_printing::put_number_line(b"at=", report.at as u64);
+    ais_printing::put_word_line(b"entry=", report.entry);
+    ais_printing::put_word_line(b"crc=", report.crc);
+    ais_printing::put_number_line(b"retries=", report.retries as u64);
 }
 
 // The dialect that was asked for.

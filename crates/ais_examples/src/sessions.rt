@@ -21,7 +21,7 @@ const PING: [u32; 6] = [
 // A reply's first bytes; nothing where there are none.
 fn show_bytes(bytes: &[u8], count: usize) {
     if count > 0 && count <= bytes.len() {
-        text::write(b" reply=");
+        ais_printing::put(b" reply=");
         text::listed(&bytes[0..count]);
     }
 }
@@ -53,11 +53,11 @@ fn send_word(session: Session, memory: &mut [u8], word: u32) -> Answer {
         words::byte_of(word, 2),
         words::byte_of(word, 3),
     ];
-    text::write(b"sent=");
+    ais_printing::put(b"sent=");
     text::listed(&bytes);
     let half = send_two(session, memory, bytes[0], bytes[1]);
     let whole = send_two(half.session, memory, bytes[2], bytes[3]);
-    text::write(b"\n");
+    ais_printing::put(b"\n");
     whole
 }
 
@@ -75,16 +75,16 @@ fn send_words(begun: Answer, memory: &mut [u8], listed: &[u32]) -> Answer {
 
 // Opens a session and sends the start word.
 fn start(name: &[u8], dialect: Dialect, first: u32, memory: &mut [u8]) -> Answer {
-    text::text_line(b"session=", name);
+    ais_printing::put_text_line(b"session=", name);
     let opened = Session::open(dialect, 1, runs::one_window(first));
     let reply = opened.reply;
     let bytes = reply.bytes;
     let letters = [bytes[0], bytes[1], bytes[2], bytes[3], bytes[4], bytes[5]];
-    text::text_line(b"greeting=", &letters);
-    text::write(b"sent=");
-    text::byte(Session::START);
+    ais_printing::put_text_line(b"greeting=", &letters);
+    ais_printing::put(b"sent=");
+    ais_printing::put_byte(Session::START);
     let answer = send_byte(opened.session, memory, Session::START);
-    text::write(b"\n");
+    ais_printing::put(b"\n");
     answer
 }
 
@@ -92,9 +92,8 @@ fn start(name: &[u8], dialect: Dialect, first: u32, memory: &mut [u8]) -> Answer
 fn compare(asked: Answer, expected: u32) {
     let reply = asked.reply;
     let bytes = reply.bytes;
-    text::write(b"register=");
-    text::word(words::word_at(&bytes, 4));
-    text::word_line(b" expected=", expected);
+    ais_printing::put_word(b"register=", words::word_at(&bytes, 4));
+    ais_printing::put_word_line(b" expected=", expected);
 }
 
 fn show_end(last: Answer) {
@@ -103,9 +102,9 @@ fn show_end(last: Answer) {
     let core = last.session.core;
     let tally = core.tally;
     ends::show_outcome(event.kind());
-    text::number_line(b"code=", refusal.code() as u64);
-    text::word_line(b"entry=", event.value());
-    text::word_line(b"crc=", tally.checksum);
+    ais_printing::put_number_line(b"code=", refusal.code() as u64);
+    ais_printing::put_word_line(b"entry=", event.value());
+    ais_printing::put_word_line(b"crc=", tally.checksum);
 }
 
 // A session of 01's window.
@@ -160,8 +159,8 @@ fn show_totals(last: Answer) {
     let now = totals.now;
     let sections = now.sections;
     let bytes = now.bytes;
-    text::number_line(b"sections=", sections.0 as u64);
-    text::number_line(b"bytes=", bytes.0 as u64);
+    ais_printing::put_number_line(b"sections=", sections.0 as u64);
+    ais_printing::put_number_line(b"bytes=", bytes.0 as u64);
 }
 
 // The same as its own boards take it: two totals after the entry address.

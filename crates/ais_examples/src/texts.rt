@@ -9,29 +9,29 @@ use opcodes::Dialect;
 
 // What reading a text and writing its image answer, and the digits that come back.
 fn turn(name: &[u8], digits: &[u8], image: &mut [u8], back: &mut [u8]) {
-    text::text_line(b"text=", name);
+    ais_printing::put_text_line(b"text=", name);
     let read = hex::read(digits, image);
-    text::number_line(b"read=", read.code() as u64);
+    ais_printing::put_number_line(b"read=", read.code() as u64);
     let written = hex::write(image, back);
-    text::number_line(b"written=", written.code() as u64);
-    text::text_line(b"digits=", back);
-    text::write(b"\n");
+    ais_printing::put_number_line(b"written=", written.code() as u64);
+    ais_printing::put_text_line(b"digits=", back);
+    ais_printing::put(b"\n");
 }
 
 // The check program's lines of an image.
 fn show_check(name: &[u8], report: Report) {
-    text::text_line(b"checked=", name);
+    ais_printing::put_text_line(b"checked=", name);
     if report.entered {
         ends::show_outcome(3);
     } else {
         ends::show_outcome(0);
     }
-    text::number_line(b"code=", report.code as u64);
-    text::number_line(b"at=", report.at as u64);
-    text::word_line(b"entry=", report.entry);
-    text::word_line(b"crc=", report.crc);
-    text::number_line(b"retries=", report.retries as u64);
-    text::write(b"\n");
+    ais_printing::put_number_line(b"code=", report.code as u64);
+    ais_printing::put_number_line(b"at=", report.at as u64);
+    ais_printing::put_word_line(b"entry=", report.entry);
+    ais_printing::put_word_line(b"crc=", report.crc);
+    ais_printing::put_number_line(b"retries=", report.retries as u64);
+    ais_printing::put(b"\n");
 }
 
 // A text through both, and its image run as 000's images are, and as the check program does, whose window is another.
@@ -58,12 +58,12 @@ pub fn figures() {
 
 // The answer alone, and what the room then holds.
 fn read_into(name: &[u8], digits: &[u8], room: &mut [u8]) {
-    text::text_line(b"text=", name);
+    ais_printing::put_text_line(b"text=", name);
     let read = hex::read(digits, room);
-    text::number_line(b"read=", read.code() as u64);
-    text::write(b"room=");
+    ais_printing::put_number_line(b"read=", read.code() as u64);
+    ais_printing::put(b"room=");
     text::listed(room);
-    text::write(b"\n\n");
+    ais_printing::put(b"\n\n");
 }
 
 // The magic word with each fault alone and with one that stands after it, no digit at all, and the magic word in a longer room.

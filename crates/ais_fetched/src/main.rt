@@ -2,20 +2,12 @@
 // retry is allowed, as in the check program.
 use checking::Counted;
 use checking::Limit;
-use libc::STDERR_FILENO;
 use libc::STDIN_FILENO;
-use libc::STDOUT_FILENO;
-
-fn put_number(name: &[u8], value: u32) {
-    io::write_all(STDOUT_FILENO, name);
-    io::print_decimal(STDOUT_FILENO, value as u64);
-    io::write_all(STDOUT_FILENO, b"\n");
-}
 
 fn put_counted(counted: Counted) {
-    put_number(b"code=", counted.code as u32);
-    put_number(b"fetched=", counted.fetched);
-    put_number(b"ceiling=", counted.ceiling);
+    ais_printing::put_number_line(b"code=", counted.code as u64);
+    ais_printing::put_number_line(b"fetched=", counted.fetched as u64);
+    ais_printing::put_number_line(b"ceiling=", counted.ceiling as u64);
 }
 
 // The retry limit that was asked for.
@@ -39,11 +31,8 @@ fn main() {
     let limit = asked();
     match limit {
         Limit::Of(retries) => count(retries),
-        Limit::Wrong => {
-            io::write_all(
-                STDERR_FILENO,
-                b"ais_fetched: the retry limit is a number from 0 to 255\n",
-            );
-        }
+        Limit::Wrong => ais_printing::say(
+            b"ais_fetched: the retry limit is a number from 0 to 255\n",
+        ),
     }
 }

@@ -1,41 +1,44 @@
-// What programs write on standard output: bytes, numbers, words and names.
+// What programs write: bytes, numbers, words and names on standard output, and complaints on standard error.
+pub mod registers;
+
+use libc::STDERR_FILENO;
 use libc::STDOUT_FILENO;
 
 pub fn put(text: &[u8]) {
     io::write_all(STDOUT_FILENO, text);
 }
 
-pub fn put_number(key: &[u8], value: u32) {
-    put(key);
-    io::print_decimal(STDOUT_FILENO, value as u64);
+// On standard error.
+pub fn say(text: &[u8]) {
+    io::write_all(STDERR_FILENO, text);
 }
 
-// A digit in capitals.
-fn digit(value: u32) -> u8 {
-    let low = (value % 16) as u8;
-    if low < 10 {
-        b'0' + low
-    } else {
-        b'A' + (low - 10)
+// A result; a complaint where it can't be written.
+pub fn put_or_say(result: &[u8], complaint: &[u8]) {
+    if !io::write_all(STDOUT_FILENO, result) {
+        say(complaint);
     }
+}
+
+pub fn put_number(key: &[u8], value: u64) {
+    put(key);
+    io::print_decimal(STDOUT_FILENO, value);
+}
+
+// Two hexadecimal digits.
+pub fn put_byte(value: u8) {
+    let number = value as u32;
+    put(&[digits::last_digit(number >> 4), digits::last_digit(number)]);
 }
 
 // Eight hexadecimal digits.
 pub fn put_word(key: &[u8], value: u32) {
     put(key);
     put(b"0x");
-    put(
-        &[
-            digit(value >> 28),
-            digit(value >> 24),
-            digit(value >> 20),
-            digit(value >> 16),
-            digit(value >> 12),
-            digit(value >> 8),
-            digit(value >> 4),
-            digit(value),
-        ],
-    );
+    put_byte(words::byte_of(value, 3));
+    put_byte(words::byte_of(value, 2));
+    put_byte(words::byte_of(value, 1));
+    put_byte(words::byte_of(value, 0));
 }
 
 // A name without the zeros behind it.
@@ -45,4 +48,20 @@ pub fn put_name(key: &[u8], name: [u8; 16]) {
     let view: &[u8] = &letters;
     let n = bytes::scan::find(view, 0, view.len(), 0);
     put(&view[..n]);
+}
+
+pub fn put_text_line(key: &[u8], text: &[u8]) {
+    put(key);
+    put(text);
+    put(b"\n");
+}
+
+pub fn put_number_line(key: &[u8], value: u64) {
+    put_number(key, value);
+    put(b"\n");
+}
+
+pub fn put_word_line(key: &[u8], value: u32) {
+    put_word(key, value);
+    put(b"\n");
 }

@@ -6,18 +6,7 @@ use field_register::Subject;
 
 // A good register.
 pub fn good(register: Register) {
-    ais_printing::put(b"register=good lines=");
-    io::print_decimal(libc::STDOUT_FILENO, register.count as u64);
-    ais_printing::put(b"\n");
-}
-
-// A refused one, with the line that is refused.
-pub fn refused(bytes: &[u8], number: u8, line: usize) {
-    ais_printing::put(b"register=refused line=");
-    io::print_decimal(libc::STDOUT_FILENO, line as u64);
-    ais_printing::put(b" ");
-    text::put_refusal(number);
-    text::show_line(bytes, line);
+    ais_printing::put_number_line(b"register=good lines=", register.count as u64);
 }
 
 // The field that a bit is in a release, and since when.
@@ -29,15 +18,13 @@ pub fn bit(register: Register, word: u32, bit: u32, release: u32) {
     let line = found.line;
     let name = line.name;
     ais_printing::put_name(b"field=", name);
-    ais_printing::put_number(b" since=", line.since);
-    ais_printing::put(b"\n");
+    ais_printing::put_number_line(b" since=", line.since as u64);
 }
 
 // The releases of a stretch; until=0 has no end.
 fn put_releases(from: u32, last: u32) {
-    ais_printing::put_number(b" since=", from);
-    ais_printing::put_number(b" until=", last);
-    ais_printing::put(b"\n");
+    ais_printing::put_number(b" since=", from as u64);
+    ais_printing::put_number_line(b" until=", last as u64);
 }
 
 // What a bit is in a stretch of releases.
@@ -58,8 +45,8 @@ fn put_place(name: [u8; 16], found: FoundLine) {
     }
     let line = found.line;
     ais_printing::put_word(b" word=", line.word);
-    ais_printing::put_number(b" start=", line.start);
-    ais_printing::put_number(b" stop=", line.stop);
+    ais_printing::put_number(b" start=", line.start as u64);
+    ais_printing::put_number(b" stop=", line.stop as u64);
 }
 
 // One stretch, and the release behind it; 0 where it has no end.
@@ -117,15 +104,14 @@ pub fn field(register: Register, name: &[u8]) {
 pub fn setting(register: Register, name: &[u8], release: u32, value: u32) {
     let made = field_register::command(register, name, release, value);
     let refusal = made.refusal;
-    let number = refusal.code();
-    if number != 0 {
-        return text::put_refusal(number);
+    let code = refusal.code();
+    if code != 0 {
+        return text::put_refusal(code);
     }
     let words = made.words;
     ais_printing::put_word(b"opcode=", words[0]);
     ais_printing::put_word(b" type=", words[1]);
     ais_printing::put_word(b" address=", words[2]);
     ais_printing::put_word(b" data=", words[3]);
-    ais_printing::put_word(b" delay=", words[4]);
-    ais_printing::put(b"\n");
+    ais_printing::put_word_line(b" delay=", words[4]);
 }

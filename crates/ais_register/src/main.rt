@@ -2,22 +2,10 @@
 mod answers;
 mod text;
 
-use field_lines::Number;
+use ais_arguments::is_word;
+use ais_arguments::number_at;
+use digits::Number;
 use field_register::Register;
-
-// A number given as an argument.
-fn number_at(i: usize) -> Number {
-    let mut room = [0u8; 16];
-    let n = os::arg(i, &mut room);
-    field_lines::given(&room[..n])
-}
-
-// Is the argument this word?
-fn is_word(i: usize, word: &[u8]) -> bool {
-    let mut room = [0u8; 8];
-    let n = os::arg(i, &mut room);
-    check::same(&room[..n], word)
-}
 
 // bit WORD BIT RELEASE
 fn ask_bit(register: Register) {
@@ -92,9 +80,9 @@ fn main() {
     let text = &room[..n];
     let reading = field_register::read(text);
     let refusal = reading.refusal;
-    let number = refusal.code();
-    if number != 0 {
-        return answers::refused(text, number, reading.line);
+    let code = refusal.code();
+    if code != 0 {
+        return ais_printing::registers::put_refused(text, code, reading.line);
     }
     let register = reading.register;
     ask(register);

@@ -19,18 +19,16 @@ fn put_outcome(outcome: Outcome) {
 
 fn put_line(line: SurveyLine) {
     let outcome = line.outcome;
-    ais_printing::put_number(b"image=", line.image);
+    ais_printing::put_number(b"image=", line.image as u64);
     put_outcome(outcome);
-    ais_printing::put_number(b" set=", line.set);
-    ais_printing::put_number(b" differ=", line.differ);
-    ais_printing::put(b"\n");
+    ais_printing::put_number(b" set=", line.set as u64);
+    ais_printing::put_number_line(b" differ=", line.differ as u64);
 }
 
 fn put_totals(totals: SurveyTotals) {
-    ais_printing::put_number(b"images=", totals.images);
-    ais_printing::put_number(b" entered=", totals.entered);
-    ais_printing::put_number(b" differ=", totals.differ);
-    ais_printing::put(b"\n");
+    ais_printing::put_number(b"images=", totals.images as u64);
+    ais_printing::put_number(b" entered=", totals.entered as u64);
+    ais_printing::put_number_line(b" differ=", totals.differ as u64);
 }
 
 // Which byte of what was read of the list is next, and how many were read.

@@ -3,7 +3,6 @@
 use ais_transcripts::images;
 use ais_transcripts::runs::Flip;
 use ais_transcripts::runs::Setting;
-use ais_transcripts::text;
 use flash::Called;
 use flash::Session;
 use opcodes::Dialect;
@@ -77,8 +76,8 @@ fn show(last: Called) {
     let now = totals.now;
     let sections = now.sections;
     let bytes = now.bytes;
-    text::number_line(b"sections=", sections.0 as u64);
-    text::word_line(b"bytes=", bytes.0);
+    ais_printing::put_number_line(b"sections=", sections.0 as u64);
+    ais_printing::put_word_line(b"bytes=", bytes.0);
 }
 
 // A window of 64 KiB that grants everything.
@@ -104,10 +103,9 @@ fn overflow() {
     images::put_words_at(&mut image, 5124, &MATCHING);
     images::put_words_at(&mut image, 5136, &SEEKING);
     let opened = Session::open(Dialect::Dm648, 1, wide_window(), &image, 255);
-    let session = opened.session;
     let mut memory = [0u8; 65536];
-    text::text_line(b"image=", b"256-fills-of-64-KiB");
-    show(flash_runs::run(session, &mut memory, &image));
+    ais_printing::put_text_line(b"image=", b"256-fills-of-64-KiB");
+    show(flash_runs::run_plain(opened, &mut memory, &image));
 }
 
 fn main() {

@@ -4,9 +4,9 @@ use crate::text;
 
 pub fn show_outcome(kind: u8) {
     if kind == 3 {
-        text::write(b"outcome=entered\n");
+        ais_printing::put(b"outcome=entered\n");
     } else {
-        text::write(b"outcome=refused\n");
+        ais_printing::put(b"outcome=refused\n");
     }
 }
 
@@ -32,7 +32,7 @@ fn changed(memory: &[u8], background: u8) -> u64 {
 pub fn show_memory(first: u32, background: u8, shown: usize, memory: &[u8]) {
     if shown <= memory.len() {
         text::rows(first, &memory[0..shown]);
-        text::number_line(b"other=", changed(&memory[shown..], background));
-        text::write(b"\n");
+        ais_printing::put_number_line(b"other=", changed(&memory[shown..], background));
+        ais_printing::put(b"\n");
     }
 }

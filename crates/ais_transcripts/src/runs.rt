@@ -1,6 +1,5 @@
 // An image run to the session's end, and what is shown of it.
 use crate::ends;
-use crate::text;
 use flash::Called;
 use flash::Session;
 use opcodes::Dialect;
@@ -70,9 +69,8 @@ fn misread_both(image: &mut [u8], setting: Setting, retries: u8) {
 fn show_request(session: Session, image: &[u8]) {
     let at = session.offset as usize;
     if words::word_at(image, at) == REQUEST {
-        text::write(b"request=");
-        text::number(at as u64);
-        text::word_line(b" register=", session.checksum);
+        ais_printing::put_number(b"request=", at as u64);
+        ais_printing::put_word_line(b" register=", session.checksum);
     }
 }
 
@@ -132,11 +130,9 @@ fn show_flip(flipped: Flip) {
     match flipped {
         Flip::None => {}
         Flip::Bit(at, bit, heal) => {
-            text::write(b"flip=");
-            text::number(at as u64);
-            text::write(b" bit=");
-            text::number(bit as u64);
-            text::number_line(b" heal=", heal as u64);
+            ais_printing::put_number(b"flip=", at as u64);
+            ais_printing::put_number(b" bit=", bit as u64);
+            ais_printing::put_number_line(b" heal=", heal as u64);
         }
     }
 }
@@ -145,7 +141,7 @@ fn show_flips(setting: Setting) {
     let one = setting.one;
     let two = setting.two;
     match one {
-        Flip::None => text::write(b"flip=none\n"),
+        Flip::None => ais_printing::put(b"flip=none\n"),
         Flip::Bit(_, _, _) => {
             show_flip(one);
             show_flip(two);
@@ -158,16 +154,16 @@ pub fn show_end(last: Called) {
     let refusal = last.refusal;
     let event = last.event;
     ends::show_outcome(event.kind());
-    text::number_line(b"code=", refusal.code() as u64);
-    text::number_line(b"at=", last.at as u64);
-    text::word_line(b"entry=", event.value());
-    text::word_line(b"crc=", last.session.checksum);
+    ais_printing::put_number_line(b"code=", refusal.code() as u64);
+    ais_printing::put_number_line(b"at=", last.at as u64);
+    ais_printing::put_word_line(b"entry=", event.value());
+    ais_printing::put_word_line(b"crc=", last.session.checksum);
     show_retries(last.session.retries);
 }
 
 // The last of them.
 fn show_retries(retries: u8) {
-    text::number_line(b"retries=", retries as u64);
+    ais_printing::put_number_line(b"retries=", retries as u64);
 }
 
 // Opens and calls, and shows requests, end and memory.
@@ -193,9 +189,9 @@ pub fn run_as(
     setting: Setting,
     image: &mut [u8],
 ) {
-    text::text_line(b"image=", image_name);
-    text::text_line(b"case=", case_name);
-    text::number_line(b"limit=", setting.limit as u64);
+    ais_printing::put_text_line(b"image=", image_name);
+    ais_printing::put_text_line(b"case=", case_name);
+    ais_printing::put_number_line(b"limit=", setting.limit as u64);
     show_flips(setting);
     let mut memory = [setting.background; 4096];
     run_in(dialect, setting, &mut memory, image);

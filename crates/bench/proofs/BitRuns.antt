@@ -13,11 +13,12 @@ use Rattle.opcodes.specs.declared.Refusal.{Refusal}
 use Rattle.opcodes.specs.declared.Refusal.the-variants as refusal
 use Rattle.flash.specs.rules.Opening.{openedBy, numberingFrom}
 use Rattle.flash.specs.declared.Opened.{Opened}
-use Rattle.flash_runs.specs.rules.Run.{runOf}
+use Rattle.flash_runs.specs.rules.Entries.{entriesFrom}
+use Rattle.flash_runs.specs.rules.Run.{ranFrom}
+use Rattle.bit_choice.specs.rules.Chosen.{chosenPlaces}
 use Rattle.bit_choice.specs.declared.Choice.{Choice}
-use Rattle.bit_watch.specs.rules.Watched.{runEntries}
-use Rattle.bench.specs.rules.Map.{windowsOf, countOf}
-use Rattle.bench.specs.rules.Numbers.{cleared, choiceOn, placesIn, barred, dialectOf}
+use Rattle.bench_sessions.specs.rules.Map.{windowsOf, countOf}
+use Rattle.bench_sessions.specs.rules.Numbers.{cleared, choiceOn, barred, dialectOf}
 use Rattle.bench.specs.rules.Bits.{Noted, unrun, bitsFrom, bitsRun}
 use Rattle.bench.specs.rules.Runs.{reported}
 
@@ -37,9 +38,9 @@ module _ (o : Opened) (choice : Choice) (m numbers image : List ℕ) where
 
   pub from-run : codeOf why ≡ 0 → bitsFrom o choice m numbers image
       ≡ record {
-        value = reported (runOf (o .session) m image .answer);
-        memory = runOf (o .session) m image .memory;
-        numbers = runEntries (placesIn choice) (cleared numbers) (o .session) m image;
+        value = reported (ranFrom o m image .answer);
+        memory = ranFrom o m image .memory;
+        numbers = entriesFrom (chosenPlaces (choice .chosen)) (cleared numbers) o m image;
       }
   unfolding bitsFrom
   from-run e = passed _ _ _ (ap not (eq-eqb _ _ e))

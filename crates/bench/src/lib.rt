@@ -1,6 +1,4 @@
 // The bench's entries for C: whole sessions on byte slices, answered by one number.
-pub mod feeding;
-pub mod maps;
 pub mod registers;
 
 ghost use mathlib.Core.Path.{_≡_};
@@ -8,17 +6,16 @@ ghost use Prim.Native.Nat.{_+_, _*_, _/_, _^_, _≤_};
 ghost use Rattle.words.specs.rules.Choice.{pick};
 ghost use Rattle.opcodes.specs.rules.Answers.{codeOf};
 ghost use Rattle.hex.specs.rules.Text.{readAnswer, readRoom, writeAnswer, writeRoom};
-ghost use Rattle.bench.specs.rules.Feeding.{tallied, laidIn, sentValue, sentMemory, sentRoom, lineSession};
-ghost use Rattle.bench.specs.rules.Numbers.{bitsSession};
+ghost use Rattle.bench_sessions.specs.rules.Feeding.{outcome, sentSession, lineSession};
+ghost use Rattle.bench_sessions.specs.rules.Numbers.{watched, bitsSession};
 ghost use Rattle.bench.specs.rules.Bits.{bitsFrom, bitsRun};
 ghost use Rattle.bench.specs.rules.Fetched.{fetchedReport, fetchedValue};
-ghost use Rattle.bench.specs.rules.Runs.{ranFrom, reported, flashValue, flashMemory};
+ghost use Rattle.bench.specs.rules.Runs.{reported, flashValue, flashMemory};
 use bit_choice::Choice;
 use flash::Called;
 use flash::Opened;
 use flash::Session;
 use opcodes::Dialect;
-use opcodes::Event;
 use opcodes::Refusal;
 use sent::Bus;
 
@@ -45,28 +42,6 @@ fn report(called: Called) -> u64
     )
 }
 
-// Runs the image from an opening, with no word chosen; where that is refused, nothing is run. Plain runs and watched ones share one loop, so that the step has one caller.
-fn run_from(opened: Opened, memory: &mut [u8], image: &[u8]) -> Called
-    ensures { λ r. ⌜ r ≡ ranFrom opened (now (memory .entry)) (now (image .entry)) .answer ⌝ }
-    ensures { λ _. ⌜ now (memory .exit) ≡ ranFrom opened (now (memory .entry)) (now (image .entry)) .memory ⌝ }
-{
-    let refusal = opened.refusal;
-    let session = opened.session;
-    if refusal.code() == 0 {
-        let places = [0usize; 1];
-        let mut none = [0u8; 1];
-        return bit_watch::run(session, 0, &places, memory, image, &mut none);
-    }
-    let wrote = commands::wrote_none();
-    Called {
-        refusal,
-        event: Event::Nothing,
-        at: 0,
-        session,
-        wrote,
-    }
-}
-
 // An answer in one number: refusal, words fetched since the opening.
 fn report_fetched(called: Called) -> u64
     ensures { λ r. ⌜ r ≡ fetchedReport called ⌝ }
@@ -84,18 +59,20 @@ fn run_image(
     limit: u8,
     fetched: bool,
 ) -> u64
-    ensures { λ r. ⌜ r ≡ pick fetched (fetchedValue dialect (now (map .entry)) (now (memory .entry)) (now (image .entry)) limit) (flashValue dialect (now (map .entry)) (now (memory .entry)) (now (image .entry)) limit) ⌝ }
+    ensures { λ r.
+        ⌜ r ≡ pick fetched (fetchedValue dialect (now (map .entry)) (now (memory .entry)) (now (image .entry)) limit)
+        (flashValue dialect (now (map .entry)) (now (memory .entry)) (now (image .entry)) limit) ⌝ }
     ensures { λ _. ⌜ now (memory .exit) ≡ flashMemory dialect (now (map .entry)) (now (memory .entry)) (now (image .entry)) limit ⌝ }
 {
     let lent = &image[0..];
     let opened = Session::open(
         dialect,
-        maps::count_of(map),
-        maps::windows_of(&map[0..]),
+        bench_sessions::maps::count_of(map),
+        bench_sessions::maps::windows_of(&map[0..]),
         lent,
         limit,
     );
-    let called = run_from(opened, memory, lent);
+    let called = flash_runs::run_plain(opened, memory, lent);
     if fetched {
         return report_fetched(called);
     }
@@ -137,11 +114,11 @@ pub extern "C" fn ais_sent_session(
     fed: &[u8],
     room: &mut [u8],
 ) -> u64
-    ensures { λ r. ⌜ r ≡ sentValue Bus.Bytes Dialect.Am17xx (now (map .entry)) (now (memory .entry)) (now (fed .entry)) (now (room .entry)) ⌝ }
-    ensures { λ _. ⌜ now (memory .exit) ≡ sentMemory Bus.Bytes Dialect.Am17xx (now (map .entry)) (now (memory .entry)) (now (fed .entry)) (now (room .entry)) ⌝ }
-    ensures { λ _. ⌜ now (room .exit) ≡ sentRoom Bus.Bytes Dialect.Am17xx (now (map .entry)) (now (memory .entry)) (now (fed .entry)) (now (room .entry)) ⌝ }
+    ensures { λ r.
+        ⌜ outcome r (now (memory .exit)) (now (room .exit))
+        ≡ sentSession Bus.Bytes Dialect.Am17xx (now (map .entry)) (now (memory .entry)) (now (fed .entry)) (now (room .entry)) ⌝ }
 {
-    feeding::session_on(Bus::Bytes, Dialect::Am17xx, map, memory, fed, room)
+    bench_sessions::session_on(Bus::Bytes, Dialect::Am17xx, map, memory, fed, room)
 }
 
 // One whole sent session on the line of halves, each lent as two bytes, the low one first.
@@ -152,11 +129,11 @@ pub extern "C" fn ais_half_session(
     fed: &[u8],
     room: &mut [u8],
 ) -> u64
-    ensures { λ r. ⌜ r ≡ sentValue Bus.Halves Dialect.Am17xx (now (map .entry)) (now (memory .entry)) (now (fed .entry)) (now (room .entry)) ⌝ }
-    ensures { λ _. ⌜ now (memory .exit) ≡ sentMemory Bus.Halves Dialect.Am17xx (now (map .entry)) (now (memory .entry)) (now (fed .entry)) (now (room .entry)) ⌝ }
-    ensures { λ _. ⌜ now (room .exit) ≡ sentRoom Bus.Halves Dialect.Am17xx (now (map .entry)) (now (memory .entry)) (now (fed .entry)) (now (room .entry)) ⌝ }
+    ensures { λ r.
+        ⌜ outcome r (now (memory .exit)) (now (room .exit))
+        ≡ sentSession Bus.Halves Dialect.Am17xx (now (map .entry)) (now (memory .entry)) (now (fed .entry)) (now (room .entry)) ⌝ }
 {
-    feeding::session_on(Bus::Halves, Dialect::Am17xx, map, memory, fed, room)
+    bench_sessions::session_on(Bus::Halves, Dialect::Am17xx, map, memory, fed, room)
 }
 
 // One whole sent session of a DM648, on the line of a number: 0 bytes, 1 halves; any other is refused with 19 before anything else is judged.
@@ -168,11 +145,11 @@ pub extern "C" fn ais_dm648_session(
     fed: &[u8],
     room: &mut [u8],
 ) -> u64
-    ensures { λ r. ⌜ r ≡ tallied (lineSession line Dialect.Dm648 (now (map .entry)) (now (memory .entry)) (now (fed .entry)) (now (room .entry))) ⌝ }
-    ensures { λ _. ⌜ now (memory .exit) ≡ lineSession line Dialect.Dm648 (now (map .entry)) (now (memory .entry)) (now (fed .entry)) (now (room .entry)) .memory ⌝ }
-    ensures { λ _. ⌜ now (room .exit) ≡ laidIn (now (room .entry)) (lineSession line Dialect.Dm648 (now (map .entry)) (now (memory .entry)) (now (fed .entry)) (now (room .entry))) ⌝ }
+    ensures { λ r.
+        ⌜ outcome r (now (memory .exit)) (now (room .exit))
+        ≡ lineSession line Dialect.Dm648 (now (map .entry)) (now (memory .entry)) (now (fed .entry)) (now (room .entry)) ⌝ }
 {
-    feeding::line_session(line, Dialect::Dm648, map, memory, fed, room)
+    bench_sessions::line_session(line, Dialect::Dm648, map, memory, fed, room)
 }
 
 // One whole sent session on a line and in a dialect by number, with the numbers of chosen words beside it.
@@ -187,12 +164,12 @@ pub extern "C" fn ais_bits_session(
     fed: &[u8],
     room: &mut [u8],
 ) -> u64
-    ensures { λ r. ⌜ r ≡ tallied (bitsSession line dialect (now (map .entry)) (now (chosen .entry)) (now (memory .entry)) (now (numbers .entry)) (now (fed .entry)) (now (room .entry)) .fed) ⌝ }
-    ensures { λ _. ⌜ now (memory .exit) ≡ bitsSession line dialect (now (map .entry)) (now (chosen .entry)) (now (memory .entry)) (now (numbers .entry)) (now (fed .entry)) (now (room .entry)) .fed .memory ⌝ }
-    ensures { λ _. ⌜ now (room .exit) ≡ laidIn (now (room .entry)) (bitsSession line dialect (now (map .entry)) (now (chosen .entry)) (now (memory .entry)) (now (numbers .entry)) (now (fed .entry)) (now (room .entry)) .fed) ⌝ }
-    ensures { λ _. ⌜ now (numbers .exit) ≡ bitsSession line dialect (now (map .entry)) (now (chosen .entry)) (now (memory .entry)) (now (numbers .entry)) (now (fed .entry)) (now (room .entry)) .numbers ⌝ }
+    ensures { λ r.
+        ⌜ watched r (now (memory .exit)) (now (numbers .exit)) (now (room .exit))
+        ≡ bitsSession line dialect (now (map .entry)) (now (chosen .entry))
+        (now (memory .entry)) (now (numbers .entry)) (now (fed .entry)) (now (room .entry)) ⌝ }
 {
-    feeding::bits_session(line, dialect, map, chosen, memory, numbers, fed, room)
+    bench_sessions::bits_session(line, dialect, map, chosen, memory, numbers, fed, room)
 }
 
 // The value of a run that is refused before the first command.
@@ -218,7 +195,7 @@ fn bits_from(
     let opening = opened.refusal;
     let session = opened.session;
     let windows = session.windows;
-    let refusal = feeding::bar(
+    let refusal = bench_sessions::bar(
         opening,
         choice,
         numbers.len(),
@@ -228,10 +205,11 @@ fn bits_from(
     if refusal.code() != 0 {
         return refuse_run(refusal);
     }
-    feeding::clear(numbers);
+    bench_sessions::clear(numbers);
     let count = choice.chosen.count;
     let places = choice.chosen.places;
-    report(bit_watch::run(session, count, &places, memory, image, numbers))
+    let mut offsets = [0u8; 0];
+    report(flash_runs::run_from(opened, count, &places, memory, image, numbers, &mut offsets))
 }
 
 // One whole flash run in a dialect by number, with the numbers of chosen words beside it.
@@ -245,21 +223,26 @@ pub extern "C" fn ais_bits_run(
     image: &[u8],
     limit: u8,
 ) -> u64
-    ensures { λ r. ⌜ r ≡ bitsRun dialect (now (map .entry)) (now (chosen .entry)) (now (memory .entry)) (now (numbers .entry)) (now (image .entry)) limit .value ⌝ }
-    ensures { λ _. ⌜ now (memory .exit) ≡ bitsRun dialect (now (map .entry)) (now (chosen .entry)) (now (memory .entry)) (now (numbers .entry)) (now (image .entry)) limit .memory ⌝ }
-    ensures { λ _. ⌜ now (numbers .exit) ≡ bitsRun dialect (now (map .entry)) (now (chosen .entry)) (now (memory .entry)) (now (numbers .entry)) (now (image .entry)) limit .numbers ⌝ }
+    ensures { λ r.
+        ⌜ r ≡ bitsRun dialect (now (map .entry)) (now (chosen .entry)) (now (memory .entry)) (now (numbers .entry)) (now (image .entry)) limit .value ⌝ }
+    ensures { λ _.
+        ⌜ now (memory .exit) ≡ bitsRun dialect (now (map .entry)) (now (chosen .entry)) (now (memory .entry))
+        (now (numbers .entry)) (now (image .entry)) limit .memory ⌝ }
+    ensures { λ _.
+        ⌜ now (numbers .exit) ≡ bitsRun dialect (now (map .entry)) (now (chosen .entry)) (now (memory .entry))
+        (now (numbers .entry)) (now (image .entry)) limit .numbers ⌝ }
 {
     if 1 < dialect {
         return refuse_run(Refusal::Call);
     }
     let opened = Session::open_numbering(
-        feeding::dialect_of(dialect),
-        maps::count_of(map),
-        maps::windows_of(map),
+        bench_sessions::dialect_of(dialect),
+        bench_sessions::maps::count_of(map),
+        bench_sessions::maps::windows_of(map),
         image,
         limit,
     );
-    let choice = feeding::choose_on(map, chosen);
+    let choice = bench_sessions::choose_on(map, chosen);
     bits_from(choice, opened, memory, numbers, image)
 }
 

@@ -12,7 +12,7 @@ use lib.Seq.{sets-eq, take-at}
 use Rattle.words.specs.rules.Bits.{join}
 use Rattle.words.specs.rules.Bytes.{wordAt, bytesAt, number}
 use Rattle.words.specs.rules.Choice.{pick}
-use Rattle.words.proofs.Choice.{chosen, passed, by-test, both}
+use Rattle.words.proofs.Choice.{chosen, passed, by-test, both, neither}
 use Rattle.windows.specs.claims.Touching.{oneGrants}
 use Rattle.windows.specs.rules.Window.{hasRight, inside, endOf, grantsRange, chainGrants, placeFrom, placeOf, some}
 use Rattle.windows.specs.declared.Place.the-variants.{At}
@@ -22,7 +22,8 @@ use Rattle.windows.proofs.Chains.{either, carries-here, chain-here}
 use Rattle.windows.proofs.Laws.{placed-inside}
 use Rattle.windows.proofs.Parts.{granted}
 use Rattle.opcodes.specs.rules.Answers.{codeOf}
-use Rattle.bit_choice.specs.rules.Chosen.{addressesFrom, addressesOf, mayBeChosen, among, allFit, goodChoice, placeNumber, wordPlace, placesOf, taken, notTaken, choiceOf}
+use Rattle.bit_choice.specs.rules.Chosen.{addressesFrom, addressesOf, mayBeChosen, among, allFit, goodChoice, placeNumber, wordPlace, placesOf, taken}
+use Rattle.bit_choice.specs.rules.Chosen.{notTaken, choiceOf}
 use Rattle.bit_choice.specs.declared.Choice.{Choice}
 use Rattle.bit_choice.specs.claims.Laws.{addressAt, Faultless, seam, ChoiceLaws}
 use Rattle.bit_choice.proofs.Choosing.{few-chosen}
@@ -47,11 +48,6 @@ address-of : (bytes : List ℕ) (n k : ℕ) → k < n → getD (addressesFrom by
 address-of bytes n k h =
     let here : 0 + k ≡ k = omega arith in
     address-from bytes 0 n k h ∙ ap (addressAt bytes) here
-
--- an address among others is one of them
-neither : (a b : Bool) → (a || b) ≡ false → (a ≡ false) × (b ≡ false)
-neither true b e = absurd (true≢false e)
-neither false b e = (refl, e)
 
 not-among : (a : ℕ) (others : List ℕ) → among a others ≡ false → (j : ℕ) → j < length others → getD others j 0 ≢ a
 unfolding among
@@ -111,7 +107,8 @@ module _ (windows : List Window) (bytes : List ℕ) where
         whole = eqb-true _ _ (front .0);
         few = few-chosen windows bytes e;
         aligned = λ i h. rw (← address-of bytes (length bytes / 4) i h)
-            (eqb-true _ _ (both (eqb (getD (addressesOf bytes) i 0 % 4) 0) (oneGrants windows Set (getD (addressesOf bytes) i 0) 4) (f .each i (rw size h)) .0));
+            (eqb-true _ _ (both (eqb (getD (addressesOf bytes) i 0 % 4) 0) (oneGrants windows Set (getD (addressesOf bytes) i 0) 4)
+            (f .each i (rw size h)) .0));
         in-one-window = λ i h. rw (← address-of bytes (length bytes / 4) i h)
             (both (eqb (getD (addressesOf bytes) i 0 % 4) 0) (oneGrants windows Set (getD (addressesOf bytes) i 0) 4) (f .each i (rw size h)) .1);
         apart = λ i j h l e. f .apart i j h (rw size l)

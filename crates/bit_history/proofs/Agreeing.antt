@@ -1,4 +1,5 @@
--- What a step tells that it wrote, against what its history has: both stamp the same, where the first bit, the count and the number are the same, or where there is no bit at all.
+-- What a step tells that it wrote, against what its history has: both stamp the same, where the first bit, the count and the number are the same, or where
+-- there is no bit at all.
 use Prim.Native.Nat.{ℕ, _+_, _*_, _/_, _%_, _<_}
 use mathlib.Core.Bool.{Bool, true, false, _&&_}
 use mathlib.Core.List.{List, [], _∷_, _++_}

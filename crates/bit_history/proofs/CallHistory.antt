@@ -1,5 +1,6 @@
--- Calls of a flash session: what one tells is what its history has. By the tests before the command and by the command: only a load, a fill and a setting write.
-use Prim.Native.Nat.{ℕ, zero, suc, _+_, _*_, _/_, _≤_}
+-- Calls of a flash session: what one tells is what its history has. By the tests before the command and by the command: only a load, a fill and a setting
+-- write.
+use Prim.Native.Nat.{ℕ, zero, suc, _+_, _*_, _≤_}
 use mathlib.Core.Bool.{Bool, true, false, not, _&&_}
 use mathlib.Core.List.{List, [], _∷_}
 use mathlib.Core.Path.{_≡_, refl, sym, ap, subst, _∙_}
@@ -22,7 +23,12 @@ use Rattle.opcodes.specs.declared.Refusal.{Refusal}
 use Rattle.opcodes.specs.declared.Refusal.the-variants as refusal
 use Rattle.ledger.specs.rules.Totals.{isSpent}
 use Rattle.ledger.specs.declared.Happening.{Happening}
-use Rattle.commands.specs.rules.Commands.{barred, loadJudged, loaded, unitOf, fillJudged, fillDone, fillMemory, shapeOf, settingJudged, settingDone, settingMemory, soughtFrom}
+use Rattle.reading.specs.rules.Reading.{present, wordsFrom, pastWords, argument, dataWords, readAs, readAt}
+use Rattle.reading.specs.declared.Read.{Read}
+use Rattle.reading.specs.declared.Read.the-variants as read
+use Rattle.commands.specs.rules.Commands.{barred, loadJudged, unitOf, fillJudged, fillDone, fillMemory, shapeOf, settingJudged, settingDone, settingMemory}
+use Rattle.commands.specs.rules.Commands.{soughtFrom}
+use Rattle.stores.specs.rules.Stores.{loaded}
 use Rattle.commands.specs.rules.Wrote.{noneWrote, bytesWrote}
 use Rattle.commands.specs.declared.Done.{Done}
 use Rattle.commands.specs.declared.Judged.{Judged}
@@ -38,12 +44,12 @@ use Rattle.bit_history.specs.claims.History.{Numbered, numbersFit, stamp
 use Rattle.bit_history.proofs.History.{history-laws}
 use Rattle.flash.specs.rules.Opening.{goodLength}
 use Rattle.flash.specs.rules.Sessions.{CallOutcome, _leaving_, fetching, unchanged, stopped}
-use Rattle.flash.specs.rules.Step.{present, wordsFrom, argument, after, loadDone, loadAt, loadJudgedAs, fillJudgedAs, settingJudgedAs, soughtAs, requested, performed, atRow, stepOf}
+use Rattle.flash.specs.rules.Step.{after, loadDone, loadAt, loadJudgedAs, fillJudgedAs, settingJudgedAs, soughtAs, requested, performed, followed, stepOf}
 use Rattle.flash.specs.claims.Totals.{Lent, answerTo}
 use Rattle.flash.specs.declared.Called.{Called}
 use Rattle.flash.specs.declared.Session.{Session}
+use Rattle.flash_runs.specs.rules.Entries.{numberWrote, callEntries, stampsOn, runStamps}
 use Rattle.flash_runs.specs.rules.Run.{goesOn, enough}
-use Rattle.bit_watch.specs.rules.Watched.{callEntries, stampsOn, entriesOn, runEntries}
 use Rattle.bit_history.specs.claims.Accepted.{one, judgedOne}
 use Rattle.bit_history.specs.claims.CallHistory.{acceptedCommand, acceptedRow, callHistory, history, entriesAfter, lentOn, CallsTell}
 use Rattle.bit_history.proofs.Agreeing.{Agrees, agrees-none, agrees-one, agrees-shape, fit-one, fit-both, same-choice}
@@ -79,16 +85,16 @@ accepts o cs = pick (eqb (codeOf (o .answer .refusal)) 0) cs []
 
 module _ (s : Session) (m image : List ℕ) where
   -- the bytes of a load whose data are all there
-  whole-data : (at size : ℕ) → present image at ((size + 3) / 4) ≡ true → length (bytesAt image at size) ≡ size
+  whole-data : (at size : ℕ) → present image at (dataWords size) ≡ true → length (bytesAt image at size) ≡ size
   unfolding present bytesAt
   whole-data at size e =
-      let there : at + 4 * ((size + 3) / 4) ≤ length image = leb-true _ _ e in
+      let there : at + 4 * dataWords size ≤ length image = leb-true _ _ e in
       length-take size (drop at image) ∙ omega (arith, length-drop at image, there)
 
   -- a load that is granted, by whether its data are there and a number is left
-  module _ (address size place : ℕ) (granted : loadJudged (s .windows) address size ≡ Granted place) (lent : length m ≡ sumOf (s .windows)) where
+  module _ (next address size place : ℕ) (granted : loadJudged (s .windows) address size ≡ Granted place) (lent : length m ≡ sumOf (s .windows)) where
     abbrev bytes : List ℕ
-    bytes = bytesAt image (s .offset + 12) size
+    bytes = bytesAt image next size
 
     abbrev loads : List Numbered
     loads = one (s .totals .next) (loadEffect place bytes)
@@ -96,7 +102,7 @@ module _ (s : Session) (m image : List ℕ) where
     abbrev loading : Bool → Bool → CallOutcome
     loading there spent =
         pick (not there) (stopped refusal.Missing s leaving m)
-        (pick spent (stopped refusal.Number s leaving m) (loadDone s m image address size place))
+        (pick spent (stopped refusal.Number s leaving m) (loadDone s m image next address size place))
 
     load-tells : length bytes ≡ size → Tells (bytesWrote (Granted place) size (s .totals .next)) m (loaded m place bytes)
     load-tells whole =
@@ -116,19 +122,19 @@ module _ (s : Session) (m image : List ℕ) where
           tells = load-tells (whole refl);
         }
 
-    load-at-shown : Shown m (loadAt s m image address size place) (accepts (loadAt s m image address size place) loads)
+    load-at-shown : Shown m (loadAt s m image next address size place) (accepts (loadAt s m image next address size place) loads)
     unfolding loadAt
-    load-at-shown = by-loading (present image (s .offset + 12) ((size + 3) / 4)) (isSpent (s .totals)) (whole-data (s .offset + 12) size) refl
+    load-at-shown = by-loading (present image next (dataWords size)) (isSpent (s .totals)) (whole-data next size) refl
 
   -- a load, by its judgement
-  load-shown : (address size : ℕ) (j : Judged) (past : Bool) → loadJudged (s .windows) address size ≡ j → length m ≡ sumOf (s .windows)
-      → Shown m (loadJudgedAs s m image address size (barred past refusal.Overflow j))
-      (accepts (loadJudgedAs s m image address size (barred past refusal.Overflow j))
-      (judgedOne (s .totals .next) j (λ place. loadEffect place (bytesAt image (s .offset + 12) size))))
+  load-shown : (next address size : ℕ) (j : Judged) (past : Bool) → loadJudged (s .windows) address size ≡ j → length m ≡ sumOf (s .windows)
+      → Shown m (loadJudgedAs s m image next address size (barred past refusal.Overflow j))
+      (accepts (loadJudgedAs s m image next address size (barred past refusal.Overflow j))
+      (judgedOne (s .totals .next) j (λ place. loadEffect place (bytesAt image next size))))
   unfolding pick
-  load-shown address size (Refused q) past e lent = idle-choice m (stopped q s leaving m) (eqb (codeOf q) 0) (record { wrote = refl; memory = refl })
-  load-shown address size (Granted place) true e lent = idle-shown m (stopped refusal.Overflow s leaving m) (record { wrote = refl; memory = refl })
-  load-shown address size (Granted place) false e lent = load-at-shown address size place e lent
+  load-shown next address size (Refused q) past e lent = idle-choice m (stopped q s leaving m) (eqb (codeOf q) 0) (record { wrote = refl; memory = refl })
+  load-shown next address size (Granted place) true e lent = idle-shown m (stopped refusal.Overflow s leaving m) (record { wrote = refl; memory = refl })
+  load-shown next address size (Granted place) false e lent = load-at-shown next address size place e lent
 
   -- an answer that tells nothing where it is accepted tells nothing
   none-after : (happened : Happening) (done : Done) (n : ℕ) → after s happened noneWrote done n .wrote ≡ noneWrote
@@ -136,16 +142,16 @@ module _ (s : Session) (m image : List ℕ) where
   none-after happened done n = of-choice (λ (a : Called). a .wrote ≡ noneWrote) _ (λ e. refl) (λ e. refl)
 
   -- a fill, by its judgement and the two refusals after it
-  module _ (address size kind pattern : ℕ) where
+  module _ (next address size kind pattern : ℕ) where
     abbrev fills : Judged → List Numbered
     fills j = judgedOne (s .totals .next) j (λ place. fillEffect place size (unitOf kind) pattern)
 
     abbrev filling : Judged → CallOutcome
-    filling j = fillJudgedAs s m address size kind pattern j
+    filling j = fillJudgedAs s m next address size kind pattern j
 
     fill-refused : (q : Refusal) → Idle m (filling (Refused q))
     unfolding fillMemory
-    fill-refused q = record { wrote = none-after _ _ 5; memory = refl }
+    fill-refused q = record { wrote = none-after _ _ next; memory = refl }
 
     fill-shown : (j : Judged) (past spent : Bool) → isSpent (s .totals) ≡ spent → fillJudged (s .windows) address size kind ≡ j
         → length m ≡ sumOf (s .windows)
@@ -163,16 +169,16 @@ module _ (s : Session) (m image : List ℕ) where
         }
 
   -- a setting, likewise
-  module _ (word address value delay : ℕ) where
+  module _ (next word address value delay : ℕ) where
     abbrev sets : Judged → List Numbered
     sets j = judgedOne (s .totals .next) j (λ place. settingEffect place (shapeOf word) value)
 
     abbrev setting : Judged → CallOutcome
-    setting j = settingJudgedAs s m word value delay j
+    setting j = settingJudgedAs s m next word value delay j
 
     setting-refused : (q : Refusal) → Idle m (setting (Refused q))
     unfolding settingMemory
-    setting-refused q = record { wrote = none-after _ _ 5; memory = refl }
+    setting-refused q = record { wrote = none-after _ _ next; memory = refl }
 
     setting-shown : (j : Judged) (spent : Bool) → isSpent (s .totals) ≡ spent → settingJudged (s .windows) word address value ≡ j
         → length m ≡ sumOf (s .windows)
@@ -192,33 +198,37 @@ module _ (s : Session) (m image : List ℕ) where
   none-sought (sought.To offset) = refl
   none-sought (sought.Refused q) = refl
 
-  none-requested : (expected seek : ℕ) → requested s expected seek .wrote ≡ noneWrote
+  none-requested : (next expected seek : ℕ) → requested s next expected seek .wrote ≡ noneWrote
   unfolding requested
-  none-requested expected seek =
+  none-requested next expected seek =
       of-choice (λ (a : Called). a .wrote ≡ noneWrote) _ (λ e. refl)
       (λ e. of-choice (λ (a : Called). a .wrote ≡ noneWrote) _ (λ l. refl) (λ l. none-sought (soughtFrom (s .offset) seek)))
 
-  command-shown : (c : Command) → length m ≡ sumOf (s .windows) → Shown m (performed c s m image) (accepts (performed c s m image) (acceptedCommand c s image))
-  command-shown command.Load lent = load-shown (argument s image 0) (argument s image 1) _ _ refl lent
-  command-shown command.Fill lent = fill-shown (argument s image 0) (argument s image 1) (argument s image 2) (argument s image 3) _ _ _ refl refl lent
-  command-shown command.BootTable lent = setting-shown (argument s image 0) (argument s image 1) (argument s image 2) (argument s image 3) _ _ refl refl lent
-  command-shown command.Enable lent = idle-choice m _ _ (record { wrote = refl; memory = refl })
-  command-shown command.Disable lent = idle-choice m _ _ (record { wrote = refl; memory = refl })
-  command-shown command.Request lent = idle-choice m _ _ (record { wrote = none-requested _ _; memory = refl })
-  command-shown command.StartOver lent = idle-choice m _ _ (record { wrote = refl; memory = refl })
-  command-shown command.JumpAndClose lent = idle-choice m _ _ (record { wrote = none-after _ _ _; memory = refl })
-  command-shown command.Ping lent = idle-choice m _ _ (record { wrote = refl; memory = refl })
-  command-shown command.SequentialRead lent = idle-choice m _ _ (record { wrote = refl; memory = refl })
+  command-shown : (c : Command) (words : ℕ) → length m ≡ sumOf (s .windows)
+      → Shown m (performed c (pastWords (s .offset) words) s m image)
+      (accepts (performed c (pastWords (s .offset) words) s m image) (acceptedCommand c words s image))
+  command-shown command.Load words lent = load-shown _ (argument image (s .offset) 0) (argument image (s .offset) 1) _ _ refl lent
+  command-shown command.Fill words lent = fill-shown _ (argument image (s .offset) 0) (argument image (s .offset) 1) (argument image (s .offset) 2)
+      (argument image (s .offset) 3) _ _ _ refl refl lent
+  command-shown command.BootTable words lent = setting-shown _ (argument image (s .offset) 0) (argument image (s .offset) 1) (argument image (s .offset) 2)
+      (argument image (s .offset) 3) _ _ refl refl lent
+  command-shown command.Enable words lent = idle-choice m _ _ (record { wrote = refl; memory = refl })
+  command-shown command.Disable words lent = idle-choice m _ _ (record { wrote = refl; memory = refl })
+  command-shown command.Request words lent = idle-choice m _ _ (record { wrote = none-requested _ _ _; memory = refl })
+  command-shown command.StartOver words lent = idle-choice m _ _ (record { wrote = refl; memory = refl })
+  command-shown command.JumpAndClose words lent = idle-choice m _ _ (record { wrote = none-after _ _ _; memory = refl })
+  command-shown command.Ping words lent = idle-choice m _ _ (record { wrote = refl; memory = refl })
+  command-shown command.SequentialRead words lent = idle-choice m _ _ (record { wrote = refl; memory = refl })
 
 module _ (s : Session) (m image : List ℕ) where
   -- a command with its words there; that they were fetched is nothing to its history
-  fetched-shown : (c : Command) (n : ℕ) → length m ≡ sumOf (s .windows)
-      → Shown m (performed c (fetching n s) m image) (accepts (performed c (fetching n s) m image) (acceptedCommand c s image))
-  unfolding argument
-  fetched-shown c n lent = subst (λ (cs : List Numbered). Shown m (performed c (fetching n s) m image) (accepts (performed c (fetching n s) m image) cs))
-      (same c) (command-shown (fetching n s) m image c lent)
+  fetched-shown : (c : Command) (words : ℕ) → length m ≡ sumOf (s .windows)
+      → Shown m (followed s m image (read.Whole c words)) (accepts (followed s m image (read.Whole c words)) (acceptedCommand c words s image))
+  fetched-shown c words lent =
+      subst (λ (cs : List Numbered). Shown m (followed s m image (read.Whole c words)) (accepts (followed s m image (read.Whole c words)) cs))
+      (same c) (command-shown (fetching (1 + words) s) m image c words lent)
     where
-      same : (c : Command) → acceptedCommand c (fetching n s) image ≡ acceptedCommand c s image
+      same : (c : Command) → acceptedCommand c words (fetching (1 + words) s) image ≡ acceptedCommand c words s image
       same command.Load = refl
       same command.Fill = refl
       same command.BootTable = refl
@@ -230,47 +240,57 @@ module _ (s : Session) (m image : List ℕ) where
       same command.Ping = refl
       same command.SequentialRead = refl
 
-  -- what the table finds
-  abbrev missing : CallOutcome
-  missing = stopped refusal.Missing (fetching (1 + wordsFrom image (s .offset + 4)) s) leaving m
-
-  by-words : (c : Command) (words : ℕ) (there : Bool) → length m ≡ sumOf (s .windows)
-      → Shown m (pick (not there) missing (performed c (fetching (1 + words) s) m image))
-      (accepts (pick (not there) missing (performed c (fetching (1 + words) s) m image)) (acceptedCommand c s image))
+  -- what is read where words are missing, and the command
+  missing-shown : (n : ℕ) (cs : List Numbered)
+      → Shown m (followed s m image (read.Refused refusal.Missing n)) (accepts (followed s m image (read.Refused refusal.Missing n)) cs)
   unfolding pick
-  by-words c words true lent = fetched-shown c (1 + words) lent
-  by-words c words false lent = idle-shown m missing (record { wrote = refl; memory = refl })
+  missing-shown n cs = idle-shown m (followed s m image (read.Refused refusal.Missing n)) (record { wrote = refl; memory = refl })
 
-  row-shown : (found : Found) → length m ≡ sumOf (s .windows) → Shown m (atRow s m image found) (accepts (atRow s m image found) (acceptedRow found s image))
+  by-words : (there : Bool) (n : ℕ) (r : Read) (cs : List Numbered) → Shown m (followed s m image r) (accepts (followed s m image r) cs)
+      → Shown m (followed s m image (pick (not there) (read.Refused refusal.Missing n) r))
+      (accepts (followed s m image (pick (not there) (read.Refused refusal.Missing n) r)) cs)
+  unfolding pick
+  by-words true n r cs shown = shown
+  by-words false n r cs shown = missing-shown n cs
+
+  row-shown : (found : Found) → length m ≡ sumOf (s .windows)
+      → Shown m (followed s m image (readAs image (s .offset) found))
+      (accepts (followed s m image (readAs image (s .offset) found)) (acceptedRow found s image))
   row-shown Unknown lent = idle-choice m _ _ (record { wrote = refl; memory = refl })
   row-shown Retired lent = idle-choice m _ _ (record { wrote = refl; memory = refl })
-  row-shown (Known c words) lent = by-words c words (present image (s .offset + 4) words) lent
+  row-shown (Known c words) lent =
+      by-words (present image (s .offset) (1 + words)) (wordsFrom image (s .offset)) (read.Whole c words) (acceptedCommand c words s image)
+      (fetched-shown c words lent)
 
-  -- the call by its four tests
+  -- the call by its three tests
   abbrev found : Found
   found = lookedUp (wordAt image (s .offset)) Flash (s .dialect)
 
-  abbrev tested : Bool → Bool → Bool → Bool → CallOutcome
-  tested ended right good there =
+  abbrev tested : Bool → Bool → Bool → CallOutcome
+  tested ended right good =
       pick ended (unchanged refusal.Ended s leaving m)
       (pick (not right) (unchanged refusal.Memory s leaving m)
       (pick (not good) (unchanged refusal.Image s leaving m)
-      (pick (not there) (stopped refusal.Missing s leaving m) (atRow s m image found))))
+      (followed s m image (readAt image (s .offset) (s .dialect)))))
 
-  by-tests : (ended right good there : Bool) → (right ≡ true → length m ≡ sumOf (s .windows))
-      → Shown m (tested ended right good there) (accepts (tested ended right good there) (acceptedRow found s image))
+  read-shown : length m ≡ sumOf (s .windows)
+      → Shown m (followed s m image (readAt image (s .offset) (s .dialect)))
+      (accepts (followed s m image (readAt image (s .offset) (s .dialect))) (acceptedRow found s image))
+  unfolding readAt
+  read-shown lent = by-words (present image (s .offset) 1) 0 (readAs image (s .offset) found) (acceptedRow found s image) (row-shown found lent)
+
+  by-tests : (ended right good : Bool) → (right ≡ true → length m ≡ sumOf (s .windows))
+      → Shown m (tested ended right good) (accepts (tested ended right good) (acceptedRow found s image))
   unfolding pick
-  by-tests true right good there lent = idle-shown m (unchanged refusal.Ended s leaving m) (record { wrote = refl; memory = refl })
-  by-tests false false good there lent = idle-shown m (unchanged refusal.Memory s leaving m) (record { wrote = refl; memory = refl })
-  by-tests false true false there lent = idle-shown m (unchanged refusal.Image s leaving m) (record { wrote = refl; memory = refl })
-  by-tests false true true false lent = idle-shown m (stopped refusal.Missing s leaving m) (record { wrote = refl; memory = refl })
-  by-tests false true true true lent = row-shown found (lent refl)
+  by-tests true right good lent = idle-shown m (unchanged refusal.Ended s leaving m) (record { wrote = refl; memory = refl })
+  by-tests false false good lent = idle-shown m (unchanged refusal.Memory s leaving m) (record { wrote = refl; memory = refl })
+  by-tests false true false lent = idle-shown m (unchanged refusal.Image s leaving m) (record { wrote = refl; memory = refl })
+  by-tests false true true lent = read-shown (lent refl)
 
   call-shown : Shown m (stepOf s m image) (callHistory s m image)
   unfolding stepOf callHistory
   call-shown =
-      by-tests (s .ended) (eqb (length m) (sumOf (s .windows))) (goodLength (length image) && eqb (length image) (s .length)) (present image (s .offset) 1)
-      (λ e. eqb-true _ _ e)
+      by-tests (s .ended) (eqb (length m) (sumOf (s .windows))) (goodLength (length image) && eqb (length image) (s .length)) (λ e. eqb-true _ _ e)
 
 stamps-law : (places entries : List ℕ) (s : Session) (calls : List Lent) → entriesAfter places entries s calls ≡ stampedAll entries places (history s calls)
 unfolding entriesAfter history stampedAll
@@ -296,7 +316,7 @@ module _ (places image : List ℕ) where
   by-going false left next after calls e = refl
 
   run-on : (n : ℕ) (entries : List ℕ) (s : Session) (m : List ℕ)
-      → entriesOn n places entries (stepOf s m image) image ≡ entriesAfter places entries s (lentOn n s m image)
+      → stampsOn numberWrote n places entries (stepOf s m image) image ≡ entriesAfter places entries s (lentOn n s m image)
   unfolding stampsOn entriesAfter lentOn
   run-on zero entries s m = refl
   run-on (suc n) entries s m =
@@ -304,7 +324,7 @@ module _ (places image : List ℕ) where
       (run-on n (callEntries places entries s m image) (stepOf s m image .answer .session) (stepOf s m image .memory))
 
 pub calls-tell : CallsTell
-unfolding runEntries
+unfolding runStamps
 calls-tell =
     record {
       stamps = stamps-law;

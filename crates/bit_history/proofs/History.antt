@@ -10,33 +10,28 @@ use lib.ListN.{length, replicate, length-replicate, getD-replicate}
 use Rattle.words.specs.rules.Bits.{within, join}
 use Rattle.words.specs.rules.Bytes.{number}
 use Rattle.words.specs.rules.Choice.{pick}
-use Rattle.words.proofs.Choice.{chosen, passed, by-test, both}
+use Rattle.words.proofs.Choice.{chosen, passed, by-test, both, neither}
 use Rattle.commands.specs.rules.Wrote.{firstBit}
-use Rattle.law_effects.specs.claims.Effects.{writes}
+use Rattle.law_effects.specs.claims.Effects.{writes, someWrites}
 use Rattle.bit_stamps.specs.rules.Stamps.{stamped, entryAt}
 use Rattle.bit_stamps.proofs.Laws.{stamp-laws}
-use Rattle.bit_history.specs.claims.History.{Numbered, someWrites, lastNumber, wroteBy, stampedAll, numbersFit, chosenBit, HistoryLaws}
+use Rattle.bit_history.specs.claims.History.{Numbered, anyWrites, lastNumber, wroteBy, stampedAll, numbersFit, chosenBit, HistoryLaws}
 
--- where neither of two holds, each fails
-neither : (a b : Bool) → (a || b) ≡ false → (a ≡ false) × (b ≡ false)
-neither true b e = absurd (true≢false e)
-neither false b e = (refl, e)
-
-no-one-law : (history : List Numbered) (p : ℕ) → someWrites history p ≡ false → lastNumber history p ≡ 0
+no-one-law : (history : List Numbered) (p : ℕ) → anyWrites history p ≡ false → lastNumber history p ≡ 0
 unfolding someWrites lastNumber
 no-one-law [] p e = refl
 no-one-law (c ∷ cs) p e =
-    let apart = neither (writes (c .effect) p) (someWrites cs p) e in
+    let apart = neither (writes (c .effect) p) (anyWrites cs p) e in
     passed _ _ _ (apart .1) ∙ passed _ _ _ (apart .0)
 
 -- one that writes is still there with others before it
-writes-later : (before after : List Numbered) (c : Numbered) (p : ℕ) → writes (c .effect) p ≡ true → someWrites (before ++ (c ∷ after)) p ≡ true
+writes-later : (before after : List Numbered) (c : Numbered) (p : ℕ) → writes (c .effect) p ≡ true → anyWrites (before ++ (c ∷ after)) p ≡ true
 unfolding someWrites
-writes-later [] after c p e = ap (λ (t : Bool). t || someWrites after p) e
+writes-later [] after c p e = ap (λ (t : Bool). t || anyWrites after p) e
 writes-later (b ∷ before) after c p e =
     ap (λ (t : Bool). writes (b .effect) p || t) (writes-later before after c p e) ∙ or-true (writes (b .effect) p)
 
-last-law : (before after : List Numbered) (c : Numbered) (p : ℕ) → writes (c .effect) p ≡ true → someWrites after p ≡ false
+last-law : (before after : List Numbered) (c : Numbered) (p : ℕ) → writes (c .effect) p ≡ true → anyWrites after p ≡ false
     → lastNumber (before ++ (c ∷ after)) p ≡ c .number
 unfolding lastNumber
 last-law [] after c p e none = passed _ _ _ none ∙ chosen _ _ _ e
@@ -50,32 +45,32 @@ pick-later true false x y z = refl
 pick-later false true x y z = refl
 pick-later false false x y z = refl
 
-some-after : (earlier later : List Numbered) (p : ℕ) → someWrites (earlier ++ later) p ≡ (someWrites earlier p || someWrites later p)
+some-after : (earlier later : List Numbered) (p : ℕ) → anyWrites (earlier ++ later) p ≡ (anyWrites earlier p || anyWrites later p)
 unfolding someWrites
 some-after [] later p = refl
 some-after (c ∷ cs) later p =
-    ap (λ (t : Bool). writes (c .effect) p || t) (some-after cs later p) ∙ sym (or-assoc (writes (c .effect) p) (someWrites cs p) (someWrites later p))
+    ap (λ (t : Bool). writes (c .effect) p || t) (some-after cs later p) ∙ sym (or-assoc (writes (c .effect) p) (anyWrites cs p) (anyWrites later p))
 
 after-law : (earlier later : List Numbered) (p : ℕ)
-    → lastNumber (earlier ++ later) p ≡ pick (someWrites later p) (lastNumber later p) (lastNumber earlier p)
+    → lastNumber (earlier ++ later) p ≡ pick (anyWrites later p) (lastNumber later p) (lastNumber earlier p)
 unfolding lastNumber
 after-law [] later p =
-    by-test (someWrites later p) (λ t. sym (chosen _ _ _ t)) (λ f. no-one-law later p f ∙ sym (passed _ _ _ f))
+    by-test (anyWrites later p) (λ t. sym (chosen _ _ _ t)) (λ f. no-one-law later p f ∙ sym (passed _ _ _ f))
 after-law (c ∷ cs) later p =
     ap₂ (λ (t : Bool) (n : ℕ). pick t n (pick (writes (c .effect) p) (c .number) 0)) (some-after cs later p) (after-law cs later p)
-    ∙ pick-later (someWrites cs p) (someWrites later p) (lastNumber cs p) (lastNumber later p) (pick (writes (c .effect) p) (c .number) 0)
+    ∙ pick-later (anyWrites cs p) (anyWrites later p) (lastNumber cs p) (lastNumber later p) (pick (writes (c .effect) p) (c .number) 0)
 
-trace-law : (before abandoned after : List Numbered) (p : ℕ) → (someWrites abandoned p ≡ true → someWrites after p ≡ true)
+trace-law : (before abandoned after : List Numbered) (p : ℕ) → (anyWrites abandoned p ≡ true → anyWrites after p ≡ true)
     → lastNumber (before ++ (abandoned ++ after)) p ≡ lastNumber (before ++ after) p
 trace-law before abandoned after p covered =
     after-law before (abandoned ++ after) p
-    ∙ by-test (someWrites after p)
+    ∙ by-test (anyWrites after p)
     (λ t.
-    chosen _ _ _ (some-after abandoned after p ∙ ap (λ (u : Bool). someWrites abandoned p || u) t ∙ or-true (someWrites abandoned p))
+    chosen _ _ _ (some-after abandoned after p ∙ ap (λ (u : Bool). anyWrites abandoned p || u) t ∙ or-true (anyWrites abandoned p))
     ∙ after-law abandoned after p ∙ chosen _ _ _ t ∙ sym (chosen _ _ _ t))
     (λ f.
-    let none : someWrites abandoned p ≡ false =
-    by-test (someWrites abandoned p) (λ t. absurd (true≢false (sym (covered t) ∙ f))) (λ e. e) in
+    let none : anyWrites abandoned p ≡ false =
+    by-test (anyWrites abandoned p) (λ t. absurd (true≢false (sym (covered t) ∙ f))) (λ e. e) in
     passed _ _ _ (some-after abandoned after p ∙ ap₂ _||_ none f) ∙ sym (passed _ _ _ f))
     ∙ sym (after-law before after p)
 
@@ -102,7 +97,7 @@ pick-on false false n last old = refl
 told-on-law : (entries places : List ℕ) (history : List Numbered) → numbersFit history ≡ true → 64 * length places ≤ length entries
     → (j k : ℕ) → j < length places → k < 32
     → entryAt (stampedAll entries places history) j k
-    ≡ pick (someWrites history (chosenBit places j k)) (lastNumber history (chosenBit places j k)) (entryAt entries j k)
+    ≡ pick (anyWrites history (chosenBit places j k)) (lastNumber history (chosenBit places j k)) (entryAt entries j k)
 unfolding stampedAll someWrites lastNumber numbersFit
 told-on-law entries places [] fit long j k h l = sym (passed _ _ _ refl)
 told-on-law entries places (c ∷ cs) fit long j k h l =
@@ -112,10 +107,10 @@ told-on-law entries places (c ∷ cs) fit long j k h l =
     let first : firstBit (wroteBy c) ≡ c .effect .first = omega arith in
     let still : 64 * length places ≤ length (stamped entries places (wroteBy c)) = rw (laws .same-length (wroteBy c)) long in
     told-on-law (stamped entries places (wroteBy c)) places cs (parts .1) still j k h l
-    ∙ ap (pick (someWrites cs p) (lastNumber cs p))
+    ∙ ap (pick (anyWrites cs p) (lastNumber cs p))
     (laws .each-entry (wroteBy c) j k (ltb-true _ _ (parts .0)) h l long
     ∙ ap (λ (b : ℕ). pick (within b (c .effect .count) p) (c .number) (entryAt entries j k)) first)
-    ∙ pick-on (writes (c .effect) p) (someWrites cs p) (c .number) (lastNumber cs p) (entryAt entries j k)
+    ∙ pick-on (writes (c .effect) p) (anyWrites cs p) (c .number) (lastNumber cs p) (entryAt entries j k)
 
 -- entries that are all 0
 zero-entry : (n j k : ℕ) → 64 * j + 2 * k + 1 < n → entryAt (replicate n 0) j k ≡ 0
@@ -130,8 +125,8 @@ told-law places history fit j k h l =
     let size : 64 * length places ≤ length zeros = rw length-replicate (omega arith) in
     let p : ℕ = chosenBit places j k in
     told-on-law zeros places history fit size j k h l
-    ∙ ap (pick (someWrites history p) (lastNumber history p)) (zero-entry (64 * length places) j k (omega arith))
-    ∙ by-test (someWrites history p) (λ t. chosen _ _ _ t) (λ f. passed _ _ _ f ∙ sym (no-one-law history p f))
+    ∙ ap (pick (anyWrites history p) (lastNumber history p)) (zero-entry (64 * length places) j k (omega arith))
+    ∙ by-test (anyWrites history p) (λ t. chosen _ _ _ t) (λ f. passed _ _ _ f ∙ sym (no-one-law history p f))
 
 pub history-laws : HistoryLaws
 history-laws = record {

@@ -1,5 +1,5 @@
--- A whole word: what it tells is what its history has, its numbers fit, it gives memory the bits that it tells, and the machine stays sound. By the phase that awaits it
--- and, at the last argument, by the command: only a fill, a setting and load data write.
+-- A whole word: what it tells is what its history has, its numbers fit, it gives memory the bits that it tells, and the machine stays sound. By the phase that
+-- awaits it and, at the last argument, by the command: only a fill, a setting and load data write.
 use Prim.Native.Nat.{ℕ, _+_, _-_, _*_, _≤_, min}
 use mathlib.Core.Bool.{Bool, true, false}
 use mathlib.Core.List.{List, []}
@@ -37,7 +37,8 @@ use Rattle.law_effects.specs.claims.Wrote.{Reports, Tells}
 use Rattle.law_effects.proofs.Effects.{load-does}
 use Rattle.law_effects.proofs.Wrote.{fill-reports, commands-tell}
 use Rattle.bit_history.specs.claims.History.{Numbered, numbersFit}
-use Rattle.machine.specs.rules.Machine.{WordOutcome, _leaving_, await, countedOn, quiet, writing, after, entered, noneKept, keeping, awaited, loadBegun, dataBytes, echoing, performed, toward, begun, acknowledging, opening, atOpcode, inPhase, wordStep}
+use Rattle.machine.specs.rules.Machine.{WordOutcome, _leaving_, await, countedOn, quiet, writing, after, entered, noneKept, keeping, awaited, loadBegun}
+use Rattle.machine.specs.rules.Machine.{dataBytes, echoing, performed, toward, begun, acknowledging, opening, atOpcode, inPhase, wordStep}
 use Rattle.machine.specs.declared.Core.{Core}
 use Rattle.machine.specs.declared.Kept.{Kept}
 use Rattle.machine.specs.declared.Phase.{Phase}

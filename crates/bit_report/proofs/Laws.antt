@@ -1,5 +1,5 @@
--- The laws. Parts and warnings go by what holds of a lowest bit; a field that is found has the bit that was asked about, by induction over the lines; the bits of a
--- command are sums on both sides.
+-- The laws. Parts and warnings go by what holds of a lowest bit; a field that is found has the bit that was asked about, by induction over the lines; the bits
+-- of a command are sums on both sides.
 use Prim.Native.Nat.{ℕ, _+_, _-_, _*_, _≤_, _<_, min}
 use mathlib.Core.Bool.{Bool, true, false, not, _&&_, _||_, true≢false}
 use mathlib.Core.List.{List, [], _∷_}

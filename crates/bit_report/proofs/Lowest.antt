@@ -1,4 +1,5 @@
--- The lowest bit of those that a loop has left: the next one, one behind it, or none; and what holds of it. By the definition's cases, and by induction over the bits.
+-- The lowest bit of those that a loop has left: the next one, one behind it, or none; and what holds of it. By the definition's cases, and by induction over
+-- the bits.
 use Prim.Native.Nat.{ℕ, zero, suc, _+_, _-_, _≤_, _<_}
 use mathlib.Core.Bool.{Bool, true, false, true≢false}
 use mathlib.Core.Path.{_≡_, sym, ap, _∙_}

@@ -5,7 +5,7 @@ use mathlib.Core.Bool.{Bool, false, _&&_, and-false}
 use mathlib.Core.List.{List, [], _∷_}
 use mathlib.Core.Path.{_≡_, refl, sym, ap, ap₂, _∙_}
 use native.Mathlib.Decide.{ℕ-discrete, decLt}
-use native.Mathlib.Nat.{add-zero, zero-add}
+use native.Mathlib.Nat.{add-zero, zero-add, suc-ne-zero}
 use native.Mathlib.Omega.{arith}
 use lib.Dec.{ltb}
 use lib.ListN.{length, getD, set, take, length-take}
@@ -94,6 +94,12 @@ pub none-written : (entries places : List ℕ) (w : Wrote) → w .count ≡ 0 �
 none-written entries places w none = kept-bytes entries places w (λ n.
     by-range (firstBit w) (w .count) (toldBit places n)
     (λ h. outside places w n (below _ _ _ h)) (λ j h e. absurd (omega arith)) (λ j e. outside places w n (above _ _ _ (omega arith))))
+
+-- where there are no entries, none is stamped
+pub none-beside : (entries places : List ℕ) (w : Wrote) → length entries ≡ 0 → stamped entries places w ≡ entries
+unfolding stampedFrom
+none-beside [] places w none = refl
+none-beside (b ∷ bs) places w some = absurd (suc-ne-zero (length bs) some)
 
 -- one word more
 module _ (entries places : List ℕ) (w : Wrote) (j : ℕ) (h : j < length places) where

@@ -1,4 +1,5 @@
--- Entries by what an answer tells: it tells what the rule's answer tells, since it is that answer; where that is nothing, or no word is chosen, all entries are kept.
+-- Entries by what an answer tells: it tells what the rule's answer tells, since it is that answer; where that is nothing, or no word is chosen, all entries are
+-- kept.
 use Prim.Native.Nat.{ℕ}
 use mathlib.Core.List.{List}
 use mathlib.Core.Path.{_≡_, sym, ap, _∙_}

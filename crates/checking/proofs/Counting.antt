@@ -13,25 +13,27 @@ use Rattle.opcodes.specs.declared.Refusal.{Refusal}
 use Rattle.opcodes.specs.declared.Refusal.the-variants.{Map, Image}
 use Rattle.opcodes.specs.declared.Dialect.the-variants.{Am17xx}
 use Rattle.flash.specs.rules.Opening.{goodLength, refusedBy, openedBy}
-use Rattle.flash.specs.declared.Called.{Called}
+use Rattle.flash.specs.rules.Sessions.{CallOutcome}
 use Rattle.flash.specs.declared.Opened.{Opened}
 use Rattle.flash_runs.specs.claims.Ceiling.{ceiling}
+use Rattle.flash_runs.specs.rules.Run.{ranFrom}
 use Rattle.flash_runs.proofs.Ceiling.{opened-within, ceilings}
-use Rattle.checking.specs.rules.Counting.{mostOf, countedOf, WithinCeiling}
+use Rattle.checking.specs.claims.Counting.{WithinCeiling}
+use Rattle.checking.specs.rules.Counting.{mostOf, countedOf}
 use Rattle.checking.specs.rules.Report.{windows, lastAnswer}
 
 -- the last answer has fetched no more than the ceiling
 answer-within : (image : List ℕ) (limit : ℕ)
     → lastAnswer image (openedBy Am17xx 1 windows image limit) .session .fetched ≤ ceiling limit (length image / 4)
-unfolding lastAnswer
+unfolding lastAnswer ranFrom
 answer-within image limit =
-    of-choice (λ (a : Called). a .session .fetched ≤ ceiling limit (length image / 4)) _
+    of-choice (λ (o : CallOutcome). o .answer .session .fetched ≤ ceiling limit (length image / 4)) _
     (λ e. ceilings .run Am17xx 1 windows image limit _) (λ e. opened-within Am17xx 1 windows image limit)
 
 -- what is refused at the opening before its first word is looked at has fetched none
 refused-none : (image : List ℕ) (q : Refusal) → eqb (codeOf q) 0 ≡ false → lastAnswer image (refusedBy q 0) .session .fetched ≡ 0
-unfolding lastAnswer
-refused-none image q e = ap (λ (a : Called). a .session .fetched) (passed _ _ _ e)
+unfolding lastAnswer ranFrom
+refused-none image q e = ap (λ (o : CallOutcome). o .answer .session .fetched) (passed _ _ _ e)
 
 no-image-none : (image : List ℕ) (limit : ℕ) → goodLength (length image) ≡ false
     → lastAnswer image (openedBy Am17xx 1 windows image limit) .session .fetched ≡ 0
@@ -46,5 +48,6 @@ unfolding countedOf mostOf
 within-ceiling image limit =
     by-test (goodLength (length image))
     (λ good.
-    subst (λ (most : ℕ). lastAnswer image (openedBy Am17xx 1 windows image limit) .session .fetched ≤ most) (sym (chosen _ _ _ good)) (answer-within image limit))
+    subst (λ (most : ℕ). lastAnswer image (openedBy Am17xx 1 windows image limit) .session .fetched ≤ most) (sym (chosen _ _ _ good))
+    (answer-within image limit))
     (λ bad. omega (arith, no-image-none image limit bad))

@@ -1,18 +1,14 @@
 // What the check program decides, and what is told of the words that an image fetches: it is opened and run, and reported.
 ghost use mathlib.Core.Path.{_≡_};
-ghost use mathlib.Core.Bool.{_&&_};
-ghost use mathlib.Core.List.{[]};
-ghost use Prim.Native.Nat.{_+_, _-_, _*_, _≤_};
-ghost use lib.ListN.{length};
 ghost use Rattle.flash.specs.rules.Opening.{openedBy};
 ghost use Rattle.checking.specs.rules.Counting.{mostOf, countedOf};
-ghost use Rattle.checking.specs.rules.Limit.{small, digit, limitFrom, limitOf};
+ghost use Rattle.checking.specs.rules.Limit.{limitOf};
 ghost use Rattle.checking.specs.rules.Report.{windows, opened, reported, lastAnswer, reportOf};
+use digits::Number;
 use flash::Called;
 use flash::Opened;
 use flash::Session;
 use opcodes::Dialect;
-use opcodes::Event;
 use windows::Window;
 
 pub struct Report {
@@ -67,25 +63,13 @@ fn report_of(called: Called) -> Report
 fn answer_to(image: &[u8], opened: Opened) -> Called
     ensures { λ r. ⌜ r ≡ lastAnswer (now (image .entry)) opened ⌝ }
 {
-    let refusal = opened.refusal;
-    let session = opened.session;
-    if refusal.code() == 0 {
-        let mut memory = [0u8; 4096];
-        return flash_runs::run(session, &mut memory, image);
-    }
-    let wrote = commands::wrote_none();
-    Called {
-        refusal,
-        event: Event::Nothing,
-        at: 0,
-        session,
-        wrote,
-    }
+    let mut memory = [0u8; 4096];
+    flash_runs::run_plain(opened, &mut memory, image)
 }
 
-// Opens an image in the check program's window.
-fn open_on(dialect: Dialect, image: &[u8], limit: u8) -> Opened
-    ensures { λ r. ⌜ r ≡ openedBy dialect 1 windows (now (image .entry)) limit ⌝ }
+// The check program's window.
+pub fn windows() -> [Window; 8]
+    ensures { λ r. ⌜ r ≡ windows ⌝ }
 {
     let none = Window {
         first: 0,
@@ -97,8 +81,14 @@ fn open_on(dialect: Dialect, image: &[u8], limit: u8) -> Opened
         length: 4096,
         rights: 7,
     };
-    let windows = [window, none, none, none, none, none, none, none];
-    Session::open(dialect, 1, windows, image, limit)
+    [window, none, none, none, none, none, none, none]
+}
+
+// Opens an image in that window.
+fn open_on(dialect: Dialect, image: &[u8], limit: u8) -> Opened
+    ensures { λ r. ⌜ r ≡ openedBy dialect 1 windows (now (image .entry)) limit ⌝ }
+{
+    Session::open(dialect, 1, windows(), image, limit)
 }
 
 // Opens an image for the check program: its window, and no retries.
@@ -138,53 +128,12 @@ pub fn count_fetches(image: &[u8], limit: u8) -> Counted
     }
 }
 
-// Is this a digit, behind others that made no more than a limit?
-fn goes_on(value: u32, character: u8) -> bool
-    ensures { λ r. ⌜ r ≡ (small value && digit character) ⌝ }
-{
-    if 255 < value {
-        return false;
-    }
-    if character < b'0' {
-        return false;
-    }
-    character <= b'9'
-}
-
-// A number with one digit more.
-fn append(value: u32, character: u8) -> u32
-    requires { ⌜ (value ≤ 255) × (48 ≤ character) × (character ≤ 57) ⌝ }
-    ensures { λ r. ⌜ r ≡ 10 * value + (character - 48) ⌝ }
-{
-    10 * value + ((character - b'0') as u32)
-}
-
-// A limit, unless it is too large.
-fn limit_at(value: u32) -> Limit
-    ensures { λ r. ⌜ r ≡ limitFrom value [] ⌝ }
-{
-    if value <= 255 {
-        return Limit::Of(value as u8);
-    }
-    Limit::Wrong
-}
-
 // The retry limit that a text gives.
 pub fn limit_of(text: &[u8]) -> Limit
     ensures { λ r. ⌜ r ≡ limitOf (now (text .entry)) ⌝ }
 {
-    if text.len() == 0 {
-        return Limit::Wrong;
+    match digits::decimal(text, 255) {
+        Number::Is(retries) => Limit::Of(retries as u8),
+        Number::Wrong => Limit::Wrong,
     }
-    let mut value: u32 = 0;
-    let mut i: usize = 0;
-    while i < text.len() {
-        let character = text[i];
-        if !goes_on(value, character) {
-            return Limit::Wrong;
-        }
-        value = append(value, character);
-        i += 1;
-    }
-    limit_at(value)
 }

@@ -1,5 +1,5 @@
--- Two results that meet one contract of the bits program's libraries coincide, as for every other public function (`Uniqueness`), and so do what the run that it tells
--- of leaves of the memory, the numbers and the offsets.
+-- Two results that meet one contract of the bits program's libraries coincide, as for every other public function (`Uniqueness`), and so do what the run that
+-- it tells of leaves of the memory, the numbers and the offsets.
 use mathlib.Core.Path.{_≡_}
 use denote.Ref.{now}
 use Rattle.bit_report.proofs.entry.Reads as entry

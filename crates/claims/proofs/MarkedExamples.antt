@@ -15,7 +15,9 @@ use Rattle.words.specs.declared.Unit.the-variants.{Four}
 use Rattle.words.proofs.Choice.{chosen, passed}
 use Rattle.checksum.specs.rules.Checksum.{shifted, fedBit, fed, fedWords}
 use Rattle.windows.specs.rules.Window.{hasRight, inside, grantsRange, placeFrom, placeOf}
-use Rattle.commands.specs.rules.Commands.{multiple, rangeJudged, loadJudged, wordsFed, loadFed, unitOf, unitsJudged, fillJudged, filled, fillMemory, memoryIf, fieldShape, shapeOf, tooWide, settingJudged, shapeSet, settingMemory, target, soughtFrom}
+use Rattle.commands.specs.rules.Commands.{multiple, rangeJudged, loadJudged, unitOf, unitsJudged, fillJudged, fillMemory, memoryIf, fieldShape, shapeOf}
+use Rattle.commands.specs.rules.Commands.{tooWide, settingJudged, shapeSet, settingMemory, target, soughtFrom}
+use Rattle.stores.specs.rules.Stores.{wordsFed, loadFed, filled}
 use Rattle.commands.specs.declared.Judged.{Judged}
 use Rattle.commands.specs.declared.Judged.the-variants.{Granted}
 use Rattle.claims.specs.claims.MarkedExamples.{AllHold, windows, wordThen, marked}
@@ -60,7 +62,8 @@ marked-hold =
     and (λ rest. first-set 0x7F 1 rest 4 3 refl)
     and (λ rest. (refl, refl))
     and (λ word value rest fit.
-    ap (λ (judged : Judged). memoryIf judged (λ place. shapeSet (wordThen word rest) place (shapeOf 0x001F0003) value) (wordThen word rest)) (word-fits value fit)
+    ap (λ (judged : Judged). memoryIf judged (λ place. shapeSet (wordThen word rest) place (shapeOf 0x001F0003) value) (wordThen word rest))
+    (word-fits value fit)
     ∙ first-set word value rest 0 32 refl ∙ all-set word value rest _)
     and (λ value. refl)
     and refl

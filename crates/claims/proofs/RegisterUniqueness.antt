@@ -1,7 +1,6 @@
 -- Two results that meet one contract of the register coincide, and so do two rooms at exit, as for every other public function (`Uniqueness`).
 use denote.Ref.{now}
 use Rattle.field_lines.proofs.name_of.Reads as name_of
-use Rattle.field_lines.proofs.given.Reads as given
 use Rattle.field_lines.proofs.no_line.Reads as no_line
 use Rattle.field_lines.proofs.line_at.Reads as line_at
 use Rattle.field_lines.proofs.is_in_force.Reads as force
@@ -26,9 +25,6 @@ use Rattle.claims.proofs.Uniqueness.{OneResult, OneResultAndMemory, sam
 -- lines
 pub name-of-unique : OneResult name_of.Post
 name-of-unique κs a r s e f = same
-
-pub given-unique : OneResult given.Post
-given-unique κs a r s e f = same
 
 pub no-line-unique : OneResult no_line.Post
 no-line-unique κs a r s e f = same

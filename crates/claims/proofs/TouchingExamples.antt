@@ -10,7 +10,9 @@ use Rattle.windows.specs.rules.Map.{soundWindow, allSound, rising, goodMap, kep
 use Rattle.windows.specs.declared.Window.{Window}
 use Rattle.windows.specs.declared.Place.the-variants.{Nowhere}
 use Rattle.windows.specs.declared.Right.{Right}
-use Rattle.commands.specs.rules.Commands.{judgedCode, multiple, rangeJudged, loadJudged, unitOf, unitsJudged, fillJudged, filled, fillMemory, fieldShape, shapeOf, tooWide, settingMemory, entryJudged}
+use Rattle.commands.specs.rules.Commands.{judgedCode, multiple, rangeJudged, loadJudged, unitOf, unitsJudged, fillJudged, fillMemory, fieldShape, shapeOf}
+use Rattle.commands.specs.rules.Commands.{tooWide, settingMemory, entryJudged}
+use Rattle.stores.specs.rules.Stores.{filled}
 use Rattle.claims.specs.claims.MarkedExamples.{AllHold}
 use Rattle.claims.specs.claims.TouchingExamples.{touching}
 use Rattle.claims.proofs.MarkedExamples.{_and_}

@@ -37,12 +37,17 @@ use Rattle.ledger.proofs.Totals.ask.Reads as totals-ask
 use Rattle.ledger.proofs.Totals.put_back.Reads as totals-put-back
 use Rattle.ledger.proofs.Totals.turn.Reads as totals-turn
 use Rattle.ledger.proofs.Totals.happen.Reads as totals-happen
+use Rattle.reading.proofs.read_at.Reads as read_at
+use Rattle.reading.proofs.argument_at.Reads as argument_at
+use Rattle.reading.proofs.data_words.Reads as words-of-data
+use Rattle.reading.proofs.has_data.Reads as data-there
 use Rattle.commands.proofs.bar.Reads as bar
 use Rattle.commands.proofs.judge_load.Reads as judge_load
 use Rattle.commands.proofs.judge_fill.Reads as judge_fill
 use Rattle.commands.proofs.judge_setting.Reads as judge_setting
 use Rattle.commands.proofs.judge_entry.Reads as judge_entry
-use Rattle.commands.proofs.load.Reads as load
+use Rattle.stores.proofs.load.Reads as load
+use Rattle.stores.proofs.fill_bytes.Reads as fill_bytes
 use Rattle.commands.proofs.fill.Reads as fill
 use Rattle.commands.proofs.boot_table.Reads as boot_table
 use Rattle.commands.proofs.jump_and_close.Reads as jump_and_close
@@ -54,11 +59,12 @@ use Rattle.flash.proofs.is_length.Reads as is_length
 use Rattle.flash.proofs.Session.«open».Reads as flash-opening
 use Rattle.flash.proofs.Session.open_numbering.Reads as flash-numbering
 use Rattle.flash.proofs.Session.step.Reads as flash-step
-use Rattle.flash_runs.proofs.run.Reads as run
+use Rattle.flash_runs.proofs.run_plain.Reads as run_plain
 use Rattle.checking.proofs.check.Reads as check
 use Rattle.checking.proofs.count_fetches.Reads as count_fetches
 use Rattle.checking.proofs.limit_of.Reads as limit_of
 use Rattle.checking.proofs.«open».Reads as check-opening
+use Rattle.checking.proofs.windows.Reads as check-windows
 use Rattle.survey.proofs.Image.absent.Reads as image-absent
 use Rattle.survey.proofs.Image.of.Reads as image-of
 use Rattle.survey.proofs.Survey.begin.Reads as survey-begin
@@ -73,20 +79,22 @@ use Rattle.sent.proofs.open_numbering.Reads as sent-numbering
 use Rattle.sent.proofs.Session.step.Reads as sent-step
 use Rattle.sent.proofs.Session.step_half.Reads as half-step
 use Rattle.sent.proofs.Session.step_at.Reads as step-at
+use Rattle.machine.proofs.silent.Reads as silent
 use Rattle.machine.proofs.take_word.Reads as take_word
 use Rattle.sent.specs.rules.Line.{UnitOutcome}
 use Rattle.sent.specs.declared.Session.{Session}
 use Rattle.port.specs.rules.Port.{isGiven}
-use Rattle.bench.proofs.maps.count_of.Reads as count_of
-use Rattle.bench.proofs.maps.windows_of.Reads as windows_of
+use Rattle.bench_sessions.proofs.maps.count_of.Reads as count_of
+use Rattle.bench_sessions.proofs.maps.windows_of.Reads as windows_of
 use Rattle.bench.proofs.ais_flash_fetched.Reads as ais_flash_fetched
+use Rattle.digits.proofs.decimal.Reads as decimal
+use Rattle.digits.proofs.hexadecimal.Reads as hexadecimal
+use Rattle.digits.proofs.given.Reads as given
+use Rattle.digits.proofs.last_digit.Reads as last_digit
 use Rattle.hex.proofs.read.Reads as read
 use Rattle.hex.proofs.write.Reads as written
 use Rattle.bench.proofs.ais_dm648_run.Reads as ais_dm648_run
-use Rattle.bench.proofs.ais_dm648_session.Reads as ais_dm648_session
 use Rattle.bench.proofs.ais_flash_run.Reads as ais_flash_run
-use Rattle.bench.proofs.ais_half_session.Reads as ais_half_session
-use Rattle.bench.proofs.ais_sent_session.Reads as ais_sent_session
 use Rattle.bench.proofs.ais_hex_read.Reads as ais_hex_read
 use Rattle.bench.proofs.ais_hex_write.Reads as ais_hex_write
 use Rattle.hex.proofs.conversions.to_text.Reads as to_text
@@ -219,6 +227,19 @@ totals-turn-unique κs a r s e f = same
 pub totals-happen-unique : OneResult totals-happen.Post
 totals-happen-unique κs a r s e f = same
 
+-- reading
+pub read-at-unique : OneResult read_at.Post
+read-at-unique κs a r s e f = same
+
+pub argument-at-unique : OneResult argument_at.Post
+argument-at-unique κs a r s e f = same
+
+pub data-words-unique : OneResult words-of-data.Post
+data-words-unique κs a r s e f = same
+
+pub has-data-unique : OneResult data-there.Post
+has-data-unique κs a r s e f = same
+
 -- commands
 pub bar-unique : OneResult bar.Post
 bar-unique κs a r s e f = same
@@ -243,6 +264,9 @@ wrote-setting-unique κs a r s e f = same
 
 pub judge-load-unique : OneResult judge_load.Post
 judge-load-unique κs a r s e f = same
+
+pub fill-bytes-unique : OneMemory fill_bytes.Post (λ κs e. now (e .0))
+fill-bytes-unique κs a r s e f = same
 
 pub load-unique : OneResultAndMemory load.Post (λ κs e. now (e .0))
 load-unique κs a r s e f = both-same
@@ -273,8 +297,8 @@ pub flash-step-unique : OneResultAndMemory flash-step.Post (λ κs e. now (e .1 
 flash-step-unique κs a r s e f = both-same
 
 -- runs
-pub run-unique : OneResultAndMemory run.Post (λ κs e. now (e .1 .0))
-run-unique κs a r s e f = both-same
+pub run-plain-unique : OneResultAndMemory run_plain.Post (λ κs e. now (e .1 .0))
+run-plain-unique κs a r s e f = both-same
 
 -- checking
 pub check-unique : OneResult check.Post
@@ -288,6 +312,9 @@ limit-of-unique κs a r s e f = same
 
 pub check-open-unique : OneResult check-opening.Post
 check-open-unique κs a r s e f = same
+
+pub check-windows-unique : OneResult check-windows.Post
+check-windows-unique κs a r s e f = same
 
 -- survey
 pub image-absent-unique : OneResult image-absent.Post
@@ -333,6 +360,9 @@ half-step-unique κs a r s e f = both-same
 pub step-at-unique : OneResultAndMemory step-at.Post (λ κs e. now (e .1 .0))
 step-at-unique κs a r s e f = both-same
 
+pub silent-unique : OneResult silent.Post
+silent-unique κs a r s e f = same
+
 pub take-word-unique : OneResultAndMemory take_word.Post (λ κs e. now (e .1 .0))
 take-word-unique κs a r s e f = both-same
 
@@ -348,6 +378,19 @@ count-of-unique κs a r s e f = same
 pub windows-of-unique : OneResult windows_of.Post
 windows-of-unique κs a r s e f = same
 
+-- digits
+pub decimal-unique : OneResult decimal.Post
+decimal-unique κs a r s e f = same
+
+pub hexadecimal-unique : OneResult hexadecimal.Post
+hexadecimal-unique κs a r s e f = same
+
+pub given-unique : OneResult given.Post
+given-unique κs a r s e f = same
+
+pub last-digit-unique : OneResult last_digit.Post
+last-digit-unique κs a r s e f = same
+
 -- hex
 pub hex-read-unique : OneResultAndMemory read.Post (λ κs e. now (e .1 .0))
 hex-read-unique κs a r s e f = both-same
@@ -355,7 +398,7 @@ hex-read-unique κs a r s e f = both-same
 pub hex-write-unique : OneResultAndMemory written.Post (λ κs e. now (e .1 .0))
 hex-write-unique κs a r s e f = both-same
 
--- bench: the sent entries have a memory and a room
+-- bench: the flash entries and the text entries; the sent ones are in `FeedingUniqueness`
 pub ais-flash-run-unique : OneResultAndMemory ais_flash_run.Post (λ κs e. now (e .1 .0))
 ais-flash-run-unique κs a r s e f = both-same
 
@@ -364,18 +407,6 @@ ais-flash-fetched-unique κs a r s e f = both-same
 
 pub ais-dm648-run-unique : OneResultAndMemory ais_dm648_run.Post (λ κs e. now (e .1 .0))
 ais-dm648-run-unique κs a r s e f = both-same
-
-pub ais-sent-session-unique : Coincide ais_sent_session.Post
-    (λ κs r s e f. (r ≡ s) × ((now (e .1 .0) ≡ now (f .1 .0)) × (now (e .1 .1 .1 .0) ≡ now (f .1 .1 .1 .0))))
-ais-sent-session-unique κs a r s e f p q = (same (p .0) (q .0), both-same (p .1) (q .1))
-
-pub ais-half-session-unique : Coincide ais_half_session.Post
-    (λ κs r s e f. (r ≡ s) × ((now (e .1 .0) ≡ now (f .1 .0)) × (now (e .1 .1 .1 .0) ≡ now (f .1 .1 .1 .0))))
-ais-half-session-unique κs a r s e f p q = (same (p .0) (q .0), both-same (p .1) (q .1))
-
-pub ais-dm648-session-unique : Coincide ais_dm648_session.Post
-    (λ κs r s e f. (r ≡ s) × ((now (e .1 .1 .0) ≡ now (f .1 .1 .0)) × (now (e .1 .1 .1 .1 .0) ≡ now (f .1 .1 .1 .1 .0))))
-ais-dm648-session-unique κs a r s e f p q = (same (p .0) (q .0), both-same (p .1) (q .1))
 
 pub ais-hex-read-unique : OneResultAndMemory ais_hex_read.Post (λ κs e. now (e .1 .0))
 ais-hex-read-unique κs a r s e f = both-same

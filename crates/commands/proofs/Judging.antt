@@ -18,7 +18,8 @@ use Rattle.windows.specs.declared.Right.{Right}
 use Rattle.windows.specs.declared.Right.the-variants as right
 use Rattle.opcodes.specs.declared.Refusal.{Refusal}
 use Rattle.opcodes.specs.declared.Refusal.the-variants as refusal
-use Rattle.commands.specs.rules.Commands.{multiple, placed, barred, rangeJudged, loadJudged, unitOf, unitsJudged, typeJudged, fillJudged, shapeOf, tooWide, shapeJudged, settingJudged, entryJudged}
+use Rattle.commands.specs.rules.Commands.{multiple, placed, barred, rangeJudged, loadJudged, unitOf, unitsJudged, typeJudged, fillJudged, shapeOf}
+use Rattle.commands.specs.rules.Commands.{tooWide, shapeJudged, settingJudged, entryJudged}
 use Rattle.commands.specs.declared.Judged.{Judged}
 use Rattle.commands.specs.declared.Judged.the-variants.{Granted, Refused}
 use Rattle.commands.specs.declared.Shape.{Shape}
@@ -88,7 +89,8 @@ pub bars : (test : Bool) (q : Refusal) (place : ℕ) → test ≡ true → barre
 bars test q place e = chosen _ _ _ e
 
 -- what is granted after it was granted before it, its test having failed
-pub granted-before : (test : Bool) (q : Refusal) (judged : Judged) (place : ℕ) → barred test q judged ≡ Granted place → (test ≡ false) × (judged ≡ Granted place)
+pub granted-before : (test : Bool) (q : Refusal) (judged : Judged) (place : ℕ) → barred test q judged ≡ Granted place
+    → (test ≡ false) × (judged ≡ Granted place)
 unfolding pick
 granted-before false q (Granted there) place e = (refl, e)
 granted-before true q (Granted there) place e = let z : _≡_ {A = ℕ} 0 1 = cc in absurd (omega arith)

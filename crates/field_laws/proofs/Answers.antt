@@ -39,7 +39,8 @@ module _ (s : Subject) (release : ℕ) where
   found-at (l ∷ ls) (suc i) h e first =
       passed _ _ _ (first 0 (omega arith)) ∙ found-at ls i (omega arith) e (λ j k. first (suc j) (omega arith))
 
-  no-earlier : (ls : List FieldLine) → GoodLines ls → (i j : ℕ) → i < length ls → j < i → answers s release (nth ls i) ≡ true → answers s release (nth ls j) ≡ false
+  no-earlier : (ls : List FieldLine) → GoodLines ls → (i j : ℕ) → i < length ls → j < i → answers s release (nth ls i) ≡ true
+      → answers s release (nth ls j) ≡ false
   no-earlier ls good i j h k e =
       by-test (answers s release (nth ls j)) (λ f. absurd (not-both ls good j i k h f e)) (λ none. none)
 

@@ -84,7 +84,8 @@ module _ (a b : FieldLine) where
       let x = has-bit a word bit g in
       let y = has-bit b word bit h in
       ap₂ _&&_ (share-release r e f)
-      (or-second (same (a .name) (b .name)) _ (ap₂ _&&_ (ap₂ _&&_ (eq-eqb _ _ (x .word-is ∙ sym (y .word-is))) (le-leb (a .start) (b .stop) (omega arith))) (le-leb (b .start) (a .stop) (omega arith))))
+      (or-second (same (a .name) (b .name)) _ (ap₂ _&&_ (ap₂ _&&_ (eq-eqb _ _ (x .word-is ∙ sym (y .word-is))) (le-leb (a .start) (b .stop) (omega arith)))
+      (le-leb (b .start) (a .stop) (omega arith))))
 
   -- two lines that answer one question in one release clash
   pub both-answer : (s : Subject) (r : ℕ) → answers s r a ≡ true → answers s r b ≡ true → clash a b ≡ true

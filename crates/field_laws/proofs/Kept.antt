@@ -1,7 +1,7 @@
 -- What the lines of a register that was read keep: each is sound, and no two clash. A line is only added where it was read and clashes with no earlier one.
 use Prim.Native.Nat.{ℕ, zero, suc, _+_, _%_, _≤_, _<_}
 use Prim.Native.Char.{code}
-use mathlib.Core.Bool.{Bool, true, false, not, _&&_, _||_, true≢false}
+use mathlib.Core.Bool.{true, false, not, _&&_, true≢false}
 use mathlib.Core.List.{List, [], _∷_, _++_}
 use mathlib.Core.Path.{_≡_, refl, sym, ap, _∙_}
 use native.Mathlib.Omega.{arith}
@@ -9,13 +9,14 @@ use borrow.Author.Tests.{leb-true, leb-false, eqb-true, not-false}
 use lib.Dec.{eqb, leb}
 use lib.ListN.{length, length-append, List·getD-append}
 use lib.Seq.{take-append-seam, getD-append-seam}
-use Rattle.words.proofs.Choice.{by-test, both, of-choice}
+use Rattle.words.proofs.Choice.{by-test, both, of-choice, neither}
 use Rattle.field_lines.specs.rules.Clashes.{clash}
 use Rattle.field_lines.specs.rules.Lines.{Pairs, pairsAt, allGood, lineOf, inOrder, noLine, parsedIf, lineAt}
 use Rattle.field_lines.specs.rules.Pairs.{valueAt, numberPair, decimalIn}
-use Rattle.field_lines.specs.rules.Text.{bytesOf, between, part, digitsValue, isDecimal}
+use Rattle.digits.specs.rules.Numbers.{numberOf}
+use Rattle.field_lines.specs.rules.Text.{bytesOf, between, part, isDecimal}
 use Rattle.field_lines.specs.declared.FieldLine.{FieldLine}
-use Rattle.field_lines.specs.declared.Number.{Number}
+use Rattle.digits.specs.declared.Number.{Number}
 use Rattle.field_lines.specs.declared.Parsed.{Parsed}
 use Rattle.field_lines.specs.declared.Value.{Value}
 use Rattle.field_lines.specs.declared.Value.the-variants.{From, Missing}
@@ -30,8 +31,8 @@ in-range : (text : List ℕ) (least most : ℕ) (v : Value) → decimalIn text l
 in-range text least most Missing e = absurd (true≢false (sym e))
 in-range text least most (From from to) e =
     of-choice (λ (n : Number). numberPair n to .good ≡ true → numberPair n to .value ≤ most)
-    (isDecimal (part text from to) && between least most (digitsValue 10 (part text from to)))
-    (λ held good. leb-true _ _ (both (leb least (digitsValue 10 (part text from to))) _ (both (isDecimal (part text from to)) _ held .1) .1))
+    (isDecimal (part text from to) && between least most (numberOf 10 (part text from to)))
+    (λ held good. leb-true _ _ (both (leb least (numberOf 10 (part text from to))) _ (both (isDecimal (part text from to)) _ held .1) .1))
     (λ failed good. absurd (true≢false (sym good)))
     e
 
@@ -54,7 +55,12 @@ module _ (text : List ℕ) (at : ℕ) where
       let five = both (pairs .field .name .good && pairs .word .good && pairs .start .good && pairs .stop .good && pairs .since .good) _ (whole .0) in
       let four = both (pairs .field .name .good && pairs .word .good && pairs .start .good && pairs .stop .good) _ (five .0) in
       let stop = both (pairs .field .name .good && pairs .word .good && pairs .start .good) _ (four .0) in
-      record { aligned = eqb-true _ _ (front .0); order = leb-true _ _ (front .1); last = in-range text 0 31 (valueAt text (pairs .start .next) (bytesOf "stop=") (code " ")) (stop .1) }
+      record {
+        aligned = eqb-true _ _ (front .0);
+        order = leb-true _ _ (front .1);
+        last = in-range text 0 31
+            (valueAt text (pairs .start .next) (bytesOf "stop=") (code " ")) (stop .1);
+      }
 
   -- a line that was read is sound
   line-sound : lineAt text at .good ≡ true → SoundLine (lineAt text at .line)
@@ -71,10 +77,6 @@ pub record GoodLines (ls : List FieldLine) : Type 0 where
 
 none-good : GoodLines []
 none-good = record { apart = λ i j h k. absurd (omega arith); sound = λ i h. absurd (omega arith) }
-
-pub neither : (a b : Bool) → (a || b) ≡ false → (a ≡ false) × (b ≡ false)
-neither true b e = absurd (true≢false e)
-neither false b e = (refl, e)
 
 -- a line that clashes with none of some clashes with none of them
 clear : (ls : List FieldLine) (l : FieldLine) → clashes ls l ≡ false → (i : ℕ) → i < length ls → clash (nth ls i) l ≡ false

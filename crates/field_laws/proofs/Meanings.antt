@@ -69,7 +69,8 @@ module _ (text name : List ℕ) (release value : ℕ) (words : List ℕ) (m : Ma
   named : f ≡ asked (registerOf text) (theName (nameOf name .name)) release
   named =
       by-test (nameOf name .good) (λ good. chosen _ _ _ good)
-      (λ bad. absurd (true≢false (sym (of .is-found) ∙ ap (λ (g : FoundLine). g .found) (passed (nameOf name .good) (asked (registerOf text) (theName (nameOf name .name)) release) noneFound bad))))
+      (λ bad. absurd (true≢false (sym (of .is-found) ∙ ap (λ (g : FoundLine). g .found)
+      (passed (nameOf name .good) (asked (registerOf text) (theName (nameOf name .name)) release) noneFound bad))))
 
   stands : Where (theName (nameOf name .name)) release (linesOf text) l
   stands =
@@ -104,7 +105,8 @@ module _ (text name : List ℕ) (release value : ℕ) (words : List ℕ) (m : Ma
       let some : fieldOf (registerOf text) word bit release .found ≡ true = ap (λ (g : FoundLine). g .found) e ∙ of .is-found in
       let w = where-found (theBit word bit) release (linesOf text) some in
       let same-line : fieldOf (registerOf text) word bit release .line ≡ l = ap (λ (g : FoundLine). g .line) e in
-      let answered : answers (theBit word bit) release l ≡ true = subst (λ (x : FieldLine). answers (theBit word bit) release x ≡ true) same-line (w .answers-it) in
+      let answered : answers (theBit word bit) release l ≡ true = subst (λ (x : FieldLine). answers (theBit word bit) release x ≡ true) same-line
+      (w .answers-it) in
       let h = has-bit l word bit (of-bit l word bit release answered) in
       never (sym (h .word-is) ∙ sym address, bits bit ∙ ap₂ _&&_ (le-leb _ _ (h .from)) (le-leb _ _ (h .to)))
 

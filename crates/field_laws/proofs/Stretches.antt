@@ -1,4 +1,5 @@
--- A stretch of releases has one answer: a line that answers at its beginning is in force through it, and a line that began within one that has none would end it.
+-- A stretch of releases has one answer: a line that answers at its beginning is in force through it, and a line that began within one that has none would end
+-- it.
 use Prim.Native.Nat.{ℕ, zero, suc, _-_, _≤_, _<_}
 use mathlib.Core.Bool.{Bool, true, false, _&&_, _||_, and-false, true≢false}
 use mathlib.Core.List.{List, [], _∷_}
@@ -7,7 +8,7 @@ use native.Mathlib.Omega.{arith}
 use borrow.Author.Tests.{leb-true, leb-false, le-leb, lt-ltb, ltb-true, ltb-false, eqb-false, ne-eqb}
 use lib.Dec.{eqb, leb, ltb}
 use lib.ListN.{length}
-use Rattle.words.proofs.Choice.{chosen, passed, by-test, both, of-choice}
+use Rattle.words.proofs.Choice.{chosen, passed, by-test, both, of-choice, neither}
 use Rattle.field_lines.specs.rules.Clashes.{lasts, inForce}
 use Rattle.field_lines.specs.declared.FieldLine.{FieldLine}
 use Rattle.field_register.specs.rules.Questions.{isAbout, answers, found, asked, sooner, soonest, lastBefore, stretchFrom}
@@ -16,7 +17,6 @@ use Rattle.field_register.specs.declared.Subject.{Subject}
 use Rattle.field_laws.specs.claims.Meanings.{registerOf, linesOf, nth, StretchMeans}
 use Rattle.field_laws.proofs.Answers.{where-found, none-found, none-at, the-answer-is}
 use Rattle.field_laws.proofs.Clashing.{or-first, or-second, or-else, in-force, is-in-force, lasts-before}
-use Rattle.field_laws.proofs.Kept.{neither}
 
 module _ (s : Subject) (release : ℕ) where
   -- later than the release, and no later than another
@@ -45,7 +45,8 @@ module _ (s : Subject) (release : ℕ) where
   sooner-line best l late about later =
       by-test (eqb best 0 || ltb (l .since) best)
       (λ first.
-      subst (λ (n : ℕ). Soon n (l .since)) (sym (chosen _ _ _ (ap₂ _&&_ (ap₂ _&&_ about (lt-ltb _ _ later)) first))) (record { later = later; low = omega arith }))
+      subst (λ (n : ℕ). Soon n (l .since)) (sym (chosen _ _ _ (ap₂ _&&_ (ap₂ _&&_ about (lt-ltb _ _ later)) first)))
+      (record { later = later; low = omega arith }))
       (λ not-first.
       let rest = neither (eqb best 0) (ltb (l .since) best) not-first in
       let low : best ≤ l .since = ltb-false _ _ (rest .1) in
@@ -111,7 +112,8 @@ module _ (text : List ℕ) (s : Subject) (release q : ℕ) (from : release ≤ q
       let w = where-found s q (linesOf text) some in
       let l : FieldLine = asked (registerOf text) s q .line in
       let silent : answers s release l ≡ false =
-      subst (λ (x : FieldLine). answers s release x ≡ false) (w .is) (none-at s release (linesOf text) (none-found s release (linesOf text) none) (w .number) (w .below)) in
+      subst (λ (x : FieldLine). answers s release x ≡ false) (w .is)
+      (none-at s release (linesOf text) (none-found s release (linesOf text) none) (w .number) (w .below)) in
       let b = began l silent (w .answers-it) in
       let soon = soonest-line s release 0 (linesOf text) (λ some-best. absurd (some-best refl)) (w .number) (w .below)
       (rw (w .is) (b .0)) (rw (w .is) (b .1)) in

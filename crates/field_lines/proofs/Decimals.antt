@@ -7,21 +7,24 @@ use native.Mathlib.Omega.{arith}
 use borrow.Author.Tests.{lt-ltb, eq-eqb, eqb-true, ltb-true, leb-true, le-leb, not-true}
 use lib.ListN.{length}
 use Rattle.words.proofs.Choice.{by-test, both}
-use Rattle.field_lines.specs.rules.Text.{between, areDigits, digitsValue, numbered, zeroLeads, isDecimal, decimalOf, isAddress, addressOf}
-use Rattle.field_lines.specs.declared.Number.the-variants.{Is, Wrong}
-use Rattle.field_lines.proofs.Digits.{within, number-held, number-refuted, number-below, made, not-made}
+use Rattle.digits.specs.rules.Numbers.{areDigits, numberOf, numberUpTo}
+use Rattle.digits.specs.declared.Number.the-variants.{Is, Wrong}
+use Rattle.digits.proofs.Numbers.{number-lt}
+use Rattle.digits.proofs.Reading.{number-held, number-refuted, made, not-made}
+use Rattle.field_lines.specs.rules.Text.{between, zeroLeads, isDecimal, decimalOf, isAddress, addressOf}
+use Rattle.field_lines.proofs.Between.{within}
 
 module _ (s : List ℕ) (least most : ℕ) where
   abbrev fitting : Bool
-  fitting = isDecimal s && between least most (digitsValue 10 s)
+  fitting = isDecimal s && between least most (numberOf 10 s)
 
   -- what a decimal number in the range is
   record Fitting : Type 0 where
     pub some : 0 < length s
     pub digits : areDigits 10 s ≡ true
     pub leads : zeroLeads s ≡ false
-    pub low : least ≤ digitsValue 10 s
-    pub high : digitsValue 10 s ≤ most
+    pub low : least ≤ numberOf 10 s
+    pub high : numberOf 10 s ≤ most
 
   fits : fitting ≡ true → Fitting
   unfolding isDecimal
@@ -38,43 +41,40 @@ module _ (s : List ℕ) (least most : ℕ) where
         high = leb-true _ _ (range .1);
       }
 
-  pub decimal-empty : length s ≡ 0 → Wrong ≡ decimalOf least most s
-  decimal-empty e = number-refuted fitting _ (λ held. let f = fits held in omega arith)
-
   pub decimal-zero : zeroLeads s ≡ true → Wrong ≡ decimalOf least most s
   decimal-zero e = number-refuted fitting _ (λ held. true≢false (sym e ∙ fits held .leads))
 
-  pub decimal-wrong : Wrong ≡ numbered 10 most 0 s → Wrong ≡ decimalOf least most s
-  decimal-wrong e = number-refuted fitting _ (λ held. let f = fits held in not-made 10 most 0 s e (f .digits) (f .high))
+  pub decimal-wrong : Wrong ≡ numberUpTo 10 most s → Wrong ≡ decimalOf least most s
+  decimal-wrong e = number-refuted fitting _ (λ held. let f = fits held in not-made 10 most s e (f .some) (f .digits) (f .high))
 
-  pub decimal-low : (n : ℕ) → Is n ≡ numbered 10 most 0 s → n < least → Wrong ≡ decimalOf least most s
+  pub decimal-low : (n : ℕ) → Is n ≡ numberUpTo 10 most s → n < least → Wrong ≡ decimalOf least most s
   decimal-low n e h =
-      number-refuted fitting _ (λ held. let f = fits held in let m = made 10 most 0 s n e in omega arith)
+      number-refuted fitting _ (λ held. let f = fits held in let m = made 10 most s n e in omega arith)
 
-  pub decimal-is : (n : ℕ) → Is n ≡ numbered 10 most 0 s → (length s ≡ 0 → ⊥) → zeroLeads s ≡ false → least ≤ n
+  pub decimal-is : (n : ℕ) → Is n ≡ numberUpTo 10 most s → zeroLeads s ≡ false → least ≤ n
       → Is n ≡ decimalOf least most s
   unfolding isDecimal
-  decimal-is n e some leads low =
-      let m = made 10 most 0 s n e in
-      let long : 0 < length s = omega arith in
+  decimal-is n e leads low =
+      let m = made 10 most s n e in
       ap Is (sym (m .is))
       ∙ number-held fitting _
-      (ap₂ _&&_ (ap₂ _&&_ (ap₂ _&&_ (lt-ltb _ _ long) (m .digits)) (ap not leads)) (within least most _ (omega arith) (m .small)))
+      (ap₂ _&&_ (ap₂ _&&_ (ap₂ _&&_ (lt-ltb _ _ (m .some)) (m .digits)) (ap not leads)) (within least most _ (omega arith) (m .small)))
 
 module _ (s : List ℕ) where
   pub address-short : (length s ≡ 8 → ⊥) → Wrong ≡ addressOf s
   unfolding isAddress
   address-short never = number-refuted _ _ (λ held. never (eqb-true _ _ (both _ _ held .0)))
 
-  below : length s ≡ 8 → areDigits 16 s ≡ true → digitsValue 16 s < 4294967296
-  below e digits = rw e at (number-below 16 0 s digits)
+  below : length s ≡ 8 → areDigits 16 s ≡ true → numberOf 16 s < 4294967296
+  below e digits = rw e at (number-lt 16 s digits)
 
   -- eight digits make a number of 32 bits
-  pub address-by : length s ≡ 8 → numbered 16 4294967295 0 s ≡ addressOf s
-  unfolding isAddress numbered
+  pub address-by : length s ≡ 8 → numberUpTo 16 4294967295 s ≡ addressOf s
+  unfolding isAddress numberUpTo
   address-by e =
+      let long : 0 < length s = omega arith in
       by-test (areDigits 16 s)
       (λ digits.
-      let small : digitsValue 16 s ≤ 4294967295 = omega (arith, below e digits) in
-      rw (digits, eq-eqb _ _ e, le-leb _ _ small))
-      (λ none. rw (none, eq-eqb _ _ e))
+      let small : numberOf 16 s ≤ 4294967295 = omega (arith, below e digits) in
+      rw (digits, eq-eqb _ _ e, lt-ltb _ _ long, le-leb _ _ small))
+      (λ none. rw (none, eq-eqb _ _ e, lt-ltb _ _ long))

@@ -1,5 +1,5 @@
+pub mod Between
 pub mod Decimals
-pub mod Digits
 pub mod Names
 pub mod Parsing
 pub mod SameBytes

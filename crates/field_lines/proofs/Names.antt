@@ -10,7 +10,7 @@ use lib.ListN.{length, getD, take, drop, set, replicate, drop-of-length-le}
 use lib.Seq.{drop-cons, take-suc, take-all, length-take-le, set-at, append-snoc}
 use Rattle.words.proofs.Choice.{chosen, passed, both, refuted}
 use Rattle.field_lines.specs.rules.Text.{between, areLetters, isName, padded, noName, nameOf}
-use Rattle.field_lines.proofs.Digits.{within}
+use Rattle.field_lines.proofs.Between.{within}
 
 module _ (s : List ℕ) where
   pub no-name : (isName s ≡ true → ⊥) → noName ≡ nameOf s

@@ -3,11 +3,11 @@ ghost use mathlib.Core.Bool.{_&&_};
 ghost use mathlib.Core.Path.{_≡_};
 ghost use Prim.Native.Nat.{_+_, _≤_, _<_, _^_};
 ghost use lib.ListN.{length};
-ghost use Rattle.hex.specs.rules.Digits.{digitValue};
-ghost use Rattle.field_lines.specs.rules.Text.{same as sameBytes, numbered, someDigits, zeroLeads, decimalOf, addressOf, noName, nameOf};
-ghost use Rattle.field_lines.specs.rules.Pairs.{stands as keyStands, valueAt, wrong as wrongPair, numberPair, decimalPair, wordPair, fieldPair, givenOf};
+ghost use Rattle.field_lines.specs.rules.Text.{same as sameBytes, zeroLeads, decimalOf, addressOf, noName, nameOf};
+ghost use Rattle.field_lines.specs.rules.Pairs.{stands as keyStands, valueAt, wrong as wrongPair, numberPair, decimalPair, wordPair, fieldPair};
 ghost use Rattle.field_lines.specs.rules.Lines.{inOrder, noLine, malformed as notParsed, parsedIf, lineAt};
 ghost use Rattle.field_lines.specs.rules.Clashes.{lasts as lineLasts, inForce, hasBit, shareRelease, shareBit, clash as linesClash};
+use digits::Number;
 
 // A field of a word, and the releases that have it: from since on up to until, 0 where it is still in force.
 pub struct FieldLine {
@@ -51,12 +51,6 @@ pub enum Value {
     Missing,
 }
 
-// The number that digits make.
-pub enum Number {
-    Is(u32),
-    Wrong,
-}
-
 // Are they the same bytes?
 fn same(a: &[u8], b: &[u8]) -> bool
     ensures { λ r. ⌜ r ≡ sameBytes (now (a .entry)) (now (b .entry)) ⌝ }
@@ -74,39 +68,6 @@ fn same(a: &[u8], b: &[u8]) -> bool
     true
 }
 
-// The value of a digit, letters in either case; 16 for a byte that is no digit.
-fn digit_of(byte: u8) -> u8
-    ensures { λ r. ⌜ r ≡ digitValue byte ⌝ }
-{
-    match byte {
-        b'0'..=b'9' => byte - b'0',
-        b'A'..=b'F' => 10 + (byte - b'A'),
-        b'a'..=b'f' => 10 + (byte - b'a'),
-        _ => 16,
-    }
-}
-
-// The number that digits of a base make, if it is no larger than the most.
-fn number_of(s: &[u8], base: u64, most: u64) -> Number
-    requires { ⌜ (1 ≤ base) × ((base ≤ 16) × (most < 2 ^ 32)) ⌝ }
-    ensures { λ r. ⌜ r ≡ numbered base most 0 (now (s .entry)) ⌝ }
-{
-    let mut value: u64 = 0;
-    let mut i: usize = 0;
-    while i < s.len() {
-        let digit = digit_of(s[i]) as u64;
-        if base <= digit {
-            return Number::Wrong;
-        }
-        value = value * base + digit;
-        if most < value {
-            return Number::Wrong;
-        }
-        i += 1;
-    }
-    Number::Is(value as u32)
-}
-
 // Does a zero stand before other digits?
 fn zero_leads(s: &[u8]) -> bool
     ensures { λ r. ⌜ r ≡ zeroLeads (now (s .entry)) ⌝ }
@@ -121,13 +82,10 @@ fn zero_leads(s: &[u8]) -> bool
 fn decimal(s: &[u8], least: u32, most: u32) -> Number
     ensures { λ r. ⌜ r ≡ decimalOf least most (now (s .entry)) ⌝ }
 {
-    if s.len() == 0 {
-        return Number::Wrong;
-    }
     if zero_leads(s) {
         return Number::Wrong;
     }
-    let Number::Is(value) = number_of(s, 10, most as u64) else {
+    let Number::Is(value) = digits::decimal(s, most) else {
         return Number::Wrong;
     };
     if value < least {
@@ -143,7 +101,7 @@ fn address(s: &[u8]) -> Number
     if s.len() != 8 {
         return Number::Wrong;
     }
-    number_of(s, 16, 0xFFFF_FFFF)
+    digits::hexadecimal(s, 0xFFFF_FFFF)
 }
 
 // Does a key stand at a place of the text?
@@ -463,25 +421,4 @@ pub fn clash(a: FieldLine, b: FieldLine) -> bool
         return true;
     }
     share_bit(a, b)
-}
-
-// One digit or more of a base, a number of 32 bits.
-fn some_digits(s: &[u8], base: u64) -> Number
-    requires { ⌜ (1 ≤ base) × (base ≤ 16) ⌝ }
-    ensures { λ r. ⌜ r ≡ someDigits base (now (s .entry)) ⌝ }
-{
-    if s.len() == 0 {
-        return Number::Wrong;
-    }
-    number_of(s, base, 0xFFFF_FFFF)
-}
-
-// A number that a person gives: 0x and hexadecimal digits, or decimal digits.
-pub fn given(s: &[u8]) -> Number
-    ensures { λ r. ⌜ r ≡ givenOf (now (s .entry)) ⌝ }
-{
-    if stands(s, 0, b"0x") {
-        return some_digits(&s[2..], 16);
-    }
-    some_digits(s, 10)
 }

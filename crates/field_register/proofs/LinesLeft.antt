@@ -71,6 +71,7 @@ module _ (d : FieldLine) (count : ℕ) (ls : List FieldLine) (i : ℕ) (h : i < 
     unfolding foundIn
     found-on e = rw next (sym (passed _ _ _ e))
 
-    pub soonest-on : (best : ℕ) → soonest s release (sooner s release best (getD ls i d)) (drop (i + 1) (take count ls)) ≡ soonest s release best (drop i (take count ls))
+    pub soonest-on : (best : ℕ) → soonest s release (sooner s release best (getD ls i d)) (drop (i + 1) (take count ls)) ≡ soonest s release best
+        (drop i (take count ls))
     unfolding soonest
     soonest-on best = rw next

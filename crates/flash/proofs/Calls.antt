@@ -8,7 +8,7 @@ use mathlib.Core.Path.{_≡_, refl, sym, ap, subst, _∙_}
 use native.Mathlib.Omega.{arith}
 use lib.Dec.{eqb}
 use lib.ListN.{length}
-use borrow.Author.Tests.{leb-true, leb-false, eqb-true, eq-eqb, ne-eqb, not-true, not-false}
+use borrow.Author.Tests.{leb-false, eqb-true, eq-eqb, ne-eqb, not-false}
 use Rattle.words.specs.rules.Bytes.{wordAt}
 use Rattle.words.specs.rules.Choice.{pick}
 use Rattle.words.proofs.Choice.{chosen, passed, both, of-choice}
@@ -16,11 +16,9 @@ use Rattle.opcodes.specs.rules.Answers.{codeOf, kindOf}
 use Rattle.opcodes.specs.rules.Opcodes.{lookedUp}
 use Rattle.opcodes.specs.declared.Command.{Command}
 use Rattle.opcodes.specs.declared.Command.the-variants as command
-use Rattle.opcodes.specs.declared.Dialect.{Dialect}
-use Rattle.opcodes.specs.declared.Dialect.the-variants.{Am17xx, Dm648}
 use Rattle.opcodes.specs.declared.Event.{Event}
 use Rattle.opcodes.specs.declared.Found.{Found}
-use Rattle.opcodes.specs.declared.Found.the-variants.{Known, Retired, Unknown}
+use Rattle.opcodes.specs.declared.Found.the-variants.{Known, Retired}
 use Rattle.opcodes.specs.declared.Mode.the-variants.{Flash}
 use Rattle.opcodes.specs.declared.Refusal.{Refusal}
 use Rattle.opcodes.specs.declared.Refusal.the-variants as refusal
@@ -29,29 +27,24 @@ use Rattle.ledger.specs.rules.Totals.{wouldPass, differs, isSpent}
 use Rattle.ledger.specs.declared.Happening.{Happening}
 use Rattle.ledger.specs.declared.Happening.the-variants as happened
 use Rattle.ledger.specs.declared.Totals.{Totals}
+use Rattle.reading.specs.rules.Reading.{wordsFrom, pastWords, argument}
+use Rattle.reading.specs.declared.Read.{Read}
+use Rattle.reading.proofs.Reading.{are-there, Reads as ReadsAs, no-opcode, unknown, retired, cut-short, whole, reads as how-read}
 use Rattle.commands.specs.rules.Commands.{judgedCode}
 use Rattle.commands.specs.declared.Done.{Done}
 use Rattle.commands.specs.declared.Judged.{Judged}
 use Rattle.commands.specs.declared.Sought.{Sought}
 use Rattle.commands.specs.rules.Wrote.{noneWrote}
 use Rattle.commands.specs.declared.Wrote.{Wrote}
-use Rattle.flash.specs.claims.Calls.{dataWords, happening, Fits, argumentWords, met, Reads, spares, Way, forward, back, kept, Call, EveryCall}
+use Rattle.flash.specs.claims.Calls.{dataWordsOf, named, happening, Fits, argumentWords, met, Reads, spares, Way, forward, back, kept, Call, EveryCall}
 use Rattle.flash.specs.rules.Opening.{goodLength}
-use Rattle.flash.specs.rules.Sessions.{CallOutcome, changed, countedOn, fetching, unchanged, stopped, accepted}
-use Rattle.flash.specs.rules.Step.{present, wordsFrom, argument, after, overflowing, outOfNumbers, loadAt, loadJudgedAs, soughtAs, requested, named, closeWords, entered, performed, atRow, stepOf}
+use Rattle.flash.specs.rules.Sessions.{CallOutcome, changed, countedOn, fetching, unchanged, stopped, acceptedAs}
+use Rattle.flash.specs.rules.Step.{after, overflowing, outOfNumbers, loadAt, loadJudgedAs, soughtAs, requested, entered, performed, followed, stepOf}
 use Rattle.flash.specs.declared.Called.{Called}
 use Rattle.flash.specs.declared.Session.{Session}
-use Rattle.flash.proofs.Verdicts.{Ending, ends, Judges, grants, denies, load-judges, fill-judges, setting-judges, entry-judges, barred-judges, granted-first, test-failed, fill-number, setting-number, close-number, Answers, accepts, rejects, fill-answers, setting-answers, close-answers, Leads, leads, astray, seek-leads}
-
--- words are there up to an offset
-there : (image : List ℕ) (at n : ℕ) → present image at n ≡ true → at + 4 * n ≤ length image
-unfolding present
-there image at n e = leb-true _ _ e
-
--- words are not there
-lacking : (image : List ℕ) (at n : ℕ) → present image at n ≡ false → length image < at + 4 * n
-unfolding present
-lacking image at n e = leb-false _ _ e
+use Rattle.flash.proofs.Verdicts.{Ending, ends, Judges, grants, denies, load-judges, fill-judges, setting-judges, entry-judges, barred-judges}
+use Rattle.flash.proofs.Verdicts.{granted-first, test-failed, fill-number, setting-number, close-number, Answers, accepts, rejects, fill-answers}
+use Rattle.flash.proofs.Verdicts.{setting-answers, close-answers, Leads, leads, astray, seek-leads}
 
 -- a count with none more, and with more in two parts
 pub counted-none : (fetched : ℕ) → fetched ≡ countedOn fetched 0
@@ -61,12 +54,6 @@ counted-none fetched = omega arith
 pub counted-both : (fetched first second : ℕ) → countedOn (countedOn fetched first) second ≡ countedOn fetched (first + second)
 unfolding countedOn
 counted-both fetched first second = omega arith
-
--- the words of Jump & Close are its opcode and those of its row
-close-count : (dialect : Dialect) (n : ℕ) → rowIs Flash dialect command.JumpAndClose n ≡ true → closeWords dialect ≡ 1 + n
-unfolding rowIs
-close-count Am17xx n row = let one = eqb-true n 1 row in omega arith
-close-count Dm648 n row = let three = eqb-true n 3 row in omega arith
 
 -- a refusal that ends the session is not 14
 pub not-over : (q : Refusal) → spares q ≡ false → eqb (codeOf q) 14 ≡ false
@@ -107,14 +94,14 @@ module _ (s : Session) (image : List ℕ) where
   unfolding met wordsFrom
   met-none h = omega arith
 
-  met-found : {found : Found} → lookedUp (wordAt image (s .offset)) Flash (s .dialect) ≡ found → s .offset + 4 ≤ length image
-      → met s image ≡ 1 + min (argumentWords found) (wordsFrom image (s .offset + 4))
-  unfolding met wordsFrom
-  met-found e h = rw e (omega arith)
+  met-found : {found : Found} → lookedUp (wordAt image (s .offset)) Flash (s .dialect) ≡ found
+      → met s image ≡ min (1 + argumentWords found) (wordsFrom image (s .offset))
+  unfolding met
+  met-found e = rw e
 
   -- what a command is to the totals where it goes forward
   abbrev what : Command → Happening
-  what c = happening c (argument s image 1)
+  what c = happening c (argument image (s .offset) 1)
 
   module _ (standing : s .ended ≡ false) where
     -- refused, the session ended
@@ -139,7 +126,7 @@ module _ (s : Session) (image : List ℕ) where
     passes : {c : Command} {words : ℕ} {told : Event} {over switch : Bool} {checksum offset fetched : ℕ} {wrote : Wrote} → Reads s image c words
         → offset ≡ s .offset + 4 * words → fetched ≡ countedOn (s .fetched) words → Fits s (what c) → over ≡ eqb (kindOf told) 3
         → (kindOf told ≡ 3 → (c ≡ command.JumpAndClose) × (differs (s .dialect) (s .totals) (named s image) ≡ false))
-        → Call s image (accepted s (what c) wrote told (changed s over switch checksum offset (s .retries) fetched (s .totals)))
+        → Call s image (acceptedAs s (what c) wrote told (changed s over switch checksum offset (s .retries) fetched (s .totals)))
     passes {c} {words} reads past all fits ended entering =
         answered
         (forward
@@ -162,7 +149,7 @@ module _ (s : Session) (image : List ℕ) where
     -- accepted with no event of entering, and going on
     goes-on : {c : Command} {words : ℕ} {told : Event} {switch : Bool} {checksum offset fetched : ℕ} {wrote : Wrote} → kindOf told ≢ 3
         → Reads s image c words → offset ≡ s .offset + 4 * words → fetched ≡ countedOn (s .fetched) words → Fits s (what c)
-        → Call s image (accepted s (what c) wrote told (changed s (s .ended) switch checksum offset (s .retries) fetched (s .totals)))
+        → Call s image (acceptedAs s (what c) wrote told (changed s (s .ended) switch checksum offset (s .retries) fetched (s .totals)))
     goes-on other reads past all fits = passes reads past all fits (standing ∙ sym (ne-eqb _ _ other)) (λ e. absurd (other e))
 
     -- a command whose opcode and argument words were met, and fetched
@@ -176,38 +163,37 @@ module _ (s : Session) (image : List ℕ) where
       denied q e = stops q e (ap (countedOn (s .fetched)) (sym whole))
 
       -- that was judged
-      after-call : {c : Command} {kind : ℕ} {done : Done} (wrote : Wrote) (words : ℕ) → words ≡ n → kind ≢ 3 → Answers kind done
-          → Reads s image c words → (codeOf (done .refusal) ≡ 0 → Fits s (what c)) → Call s image (after fetched (what c) wrote done words)
+      after-call : {c : Command} {kind : ℕ} {done : Done} (wrote : Wrote) → kind ≢ 3 → Answers kind done → Reads s image c n
+          → (codeOf (done .refusal) ≡ 0 → Fits s (what c)) → Call s image (after fetched (what c) wrote done (s .offset + 4 * n))
       unfolding after
-      after-call wrote words all other (accepts e k) reads fits =
-          subst (Call s image) (sym (chosen _ _ _ (eq-eqb _ _ e)))
-          (goes-on (λ z. other (sym k ∙ z)) reads refl (ap (countedOn (s .fetched)) (sym all)) (fits e))
-      after-call wrote words all other (rejects e) reads fits = subst (Call s image) (sym (passed _ _ _ (ne-eqb _ _ (e .refused)))) (denied _ e)
+      after-call wrote other (accepts e k) reads fits =
+          subst (Call s image) (sym (chosen _ _ _ (eq-eqb _ _ e))) (goes-on (λ z. other (sym k ∙ z)) reads refl refl (fits e))
+      after-call wrote other (rejects e) reads fits = subst (Call s image) (sym (passed _ _ _ (ne-eqb _ _ (e .refused)))) (denied _ e)
 
-      entered-call : {done : Done} (words : ℕ) → words ≡ n → Answers 3 done → Reads s image command.JumpAndClose words
+      entered-call : {done : Done} → Answers 3 done → Reads s image command.JumpAndClose n
           → (codeOf (done .refusal) ≡ 0 → differs (s .dialect) (s .totals) (named s image) ≡ false)
-          → Call s image (entered (after fetched happened.Other noneWrote done words))
+          → Call s image (entered (after fetched happened.Other noneWrote done (s .offset + 4 * n)))
       unfolding after
-      entered-call words all (accepts e k) reads same =
+      entered-call (accepts e k) reads same =
           subst (λ (a : Called). Call s image (entered a)) (sym (chosen _ _ _ (eq-eqb _ _ e)))
-          (passes reads refl (ap (countedOn (s .fetched)) (sym all)) tt (sym (eq-eqb _ _ k)) (λ z. (refl, same e)))
-      entered-call words all (rejects e) reads same =
+          (passes reads refl refl tt (sym (eq-eqb _ _ k)) (λ z. (refl, same e)))
+      entered-call (rejects e) reads same =
           subst (λ (a : Called). Call s image (entered a)) (sym (passed _ _ _ (ne-eqb _ _ (e .refused)))) (denied _ e)
 
-      module _ {words : ℕ} (all : words ≡ n) (reads : Reads s image command.Request words) where
+      module _ (reads : Reads s image command.Request n) where
         sought-call : {led : Sought} → Leads (s .offset) led → s .retries < s .limit → Call s image (soughtAs fetched led)
         sought-call (leads aligned low below) left =
             answered
             (back
             (record {
-              words = words;
+              words = n;
               reads = reads;
               accepted = refl;
               aligned = aligned;
               low = low;
               below = below;
               left = left;
-              fetched = ap (countedOn (s .fetched)) (sym all);
+              fetched = refl;
               counted = refl;
               totals = refl;
               no-event = refl;
@@ -216,10 +202,10 @@ module _ (s : Session) (image : List ℕ) where
             (sym standing) (sym (passed _ _ _ refl))
         sought-call (astray e) left = denied _ e
 
-        request-call : (expected seek : ℕ) → words ≡ 3 → Call s image (requested fetched expected seek)
+        request-call : (expected seek : ℕ) → Call s image (requested fetched (s .offset + 4 * n) expected seek)
         unfolding requested
-        request-call expected seek three =
-            of-choice (Call s image) _ (λ e. goes-on (λ z. omega arith) reads (omega arith) (ap (countedOn (s .fetched)) (sym all)) tt)
+        request-call expected seek =
+            of-choice (Call s image) _ (λ e. goes-on (λ z. omega arith) reads refl refl tt)
             (λ e. of-choice (Call s image) _ (λ e. denied refusal.Checksum (ends refusal.Checksum refl))
             (λ e. sought-call (seek-leads (s .offset) seek) (leb-false _ _ e)))
 
@@ -230,28 +216,28 @@ module _ (s : Session) (image : List ℕ) where
 
       -- a row that is found, its command's argument words there
       module _ {c : Command} {arguments : ℕ} (known : lookedUp (wordAt image (s .offset)) Flash (s .dialect) ≡ Known c arguments)
-          (here : s .offset + 4 + 4 * arguments ≤ length image) where
-        read : (words : ℕ) → words ≡ 1 + arguments + dataWords c s image → s .offset + 4 * words ≤ length image → Reads s image c words
+          (here : pastWords (s .offset) arguments ≤ length image) where
+        read : (words : ℕ) → words ≡ 1 + arguments + dataWordsOf c s image → s .offset + 4 * words ≤ length image → Reads s image c words
         read words count present = record { arguments = arguments; row = known; count = count; present = present; lent = same }
 
-        whole : met s image ≡ 1 + arguments
+        all-met : met s image ≡ 1 + arguments
         unfolding wordsFrom
-        whole = met-found known (omega arith) ∙ omega arith
+        all-met = met-found known ∙ omega arith
 
       load-call : {arguments : ℕ} {j : Judged} → lookedUp (wordAt image (s .offset)) Flash (s .dialect) ≡ Known command.Load arguments
-          → s .offset + 4 + 4 * arguments ≤ length image → arguments ≡ 2 → Judges j
-          → (judgedCode j ≡ 0 → wouldPass (s .dialect) (s .totals) (argument s image 1) ≡ false)
+          → pastWords (s .offset) arguments ≤ length image → Judges j
+          → (judgedCode j ≡ 0 → wouldPass (s .dialect) (s .totals) (argument image (s .offset) 1) ≡ false)
           → Answered
-          (loadJudgedAs (fetching (1 + arguments) s) m image (argument (fetching (1 + arguments) s) image 0)
-          (argument (fetching (1 + arguments) s) image 1) j)
-      unfolding loadAt argument
-      load-call {arguments} known here two grants fits =
-          of-choice Answered _ (λ e. denied (1 + arguments) (whole known here) refusal.Missing (ends refusal.Missing refl))
-          (λ e. of-choice Answered _ (λ spent. denied (1 + arguments) (whole known here) refusal.Number (ends refusal.Number refl))
+          (loadJudgedAs (fetching (1 + arguments) s) m image (pastWords (s .offset) arguments) (argument image (s .offset) 0)
+          (argument image (s .offset) 1) j)
+      unfolding loadAt
+      load-call {arguments} known here grants fits =
+          of-choice Answered _ (λ e. denied (1 + arguments) (all-met known here) refusal.Missing (ends refusal.Missing refl))
+          (λ e. of-choice Answered _ (λ spent. denied (1 + arguments) (all-met known here) refusal.Number (ends refusal.Number refl))
           (λ unspent. goes-on (λ z. omega arith)
-          (read known here (1 + arguments + dataWords command.Load s image) refl (omega (arith, there image _ _ (not-false _ e)))) (omega arith)
+          (read known here (1 + arguments + dataWordsOf command.Load s image) refl (omega (arith, are-there image _ _ (not-false _ e)))) (omega arith)
           (counted-both (s .fetched) (1 + arguments) _) (fits refl, unspent)))
-      load-call {arguments} known here two (denies e) fits = denied (1 + arguments) (whole known here) _ e
+      load-call {arguments} known here (denies e) fits = denied (1 + arguments) (all-met known here) _ e
 
       -- 18 follows what judges a section, 25 what judges a command that is numbered, and 17 what judges an entry
       section-judges : {j : Judged} (size : ℕ) → Judges j → Judges (overflowing s size j)
@@ -265,57 +251,46 @@ module _ (s : Session) (image : List ℕ) where
       numbered-passed judges e = (granted-first _ (ends refusal.Number refl) judges e, test-failed _ (ends refusal.Number refl) judges e)
 
       -- each command whose argument words are there
-      performed-call : (c : Command) (arguments : ℕ) → rowIs Flash (s .dialect) c arguments ≡ true
-          → lookedUp (wordAt image (s .offset)) Flash (s .dialect) ≡ Known c arguments
-          → s .offset + 4 + 4 * arguments ≤ length image → Answered (performed c (fetching (1 + arguments) s) m image)
-      unfolding rowIs argument
+      performed-call : (c : Command) (n : ℕ) → rowIs Flash (s .dialect) c n ≡ true
+          → lookedUp (wordAt image (s .offset)) Flash (s .dialect) ≡ Known c n
+          → pastWords (s .offset) n ≤ length image → Answered (performed c (pastWords (s .offset) n) (fetching (1 + n) s) m image)
+      unfolding rowIs
       performed-call command.Load n row known h =
           let judges = load-judges (s .windows) _ _ in
-          load-call known h (eqb-true n 2 row) (section-judges _ judges) (test-failed _ (ends refusal.Overflow refl) judges)
+          load-call known h (section-judges _ judges) (test-failed _ (ends refusal.Overflow refl) judges)
       performed-call command.Fill n row known h =
-          let four = eqb-true n 4 row in
           let judges = fill-judges (s .windows) _ _ _ in
-          after-call (1 + n) (whole known h) _ 5 (omega arith) (λ z. omega arith) (fill-answers (numbered-judges (section-judges _ judges)) _ _ _ _ _ _)
-          (read known h 5 (omega arith) (omega arith))
+          after-call (1 + n) (all-met known h) _ (λ z. omega arith) (fill-answers (numbered-judges (section-judges _ judges)) _ _ _ _ _ _)
+          (read known h (1 + n) (omega arith) (omega arith))
           (λ e.
           let first = numbered-passed (section-judges _ judges) (sym (fill-number _ _ _ _ _ _ _) ∙ e) in
           (test-failed _ (ends refusal.Overflow refl) judges (first .0), first .1))
       performed-call command.BootTable n row known h =
-          let four = eqb-true n 4 row in
           let judges = setting-judges (s .windows) _ _ _ in
-          after-call (1 + n) (whole known h) _ 5 (omega arith) (λ z. omega arith) (setting-answers (numbered-judges judges) _ _)
-          (read known h 5 (omega arith) (omega arith)) (λ e. numbered-passed judges (sym (setting-number _ _ _) ∙ e) .1)
-      performed-call command.Enable n row known h =
-          let none = eqb-true n 0 row in
-          goes-on (λ z. omega arith) (read known h (1 + n) (omega arith) (omega arith)) (omega arith) refl tt
-      performed-call command.Disable n row known h =
-          let none = eqb-true n 0 row in
-          goes-on (λ z. omega arith) (read known h (1 + n) (omega arith) (omega arith)) (omega arith) refl tt
+          after-call (1 + n) (all-met known h) _ (λ z. omega arith) (setting-answers (numbered-judges judges) _ _)
+          (read known h (1 + n) (omega arith) (omega arith)) (λ e. numbered-passed judges (sym (setting-number _ _ _) ∙ e) .1)
+      performed-call command.Enable n row known h = goes-on (λ z. omega arith) (read known h (1 + n) (omega arith) (omega arith)) refl refl tt
+      performed-call command.Disable n row known h = goes-on (λ z. omega arith) (read known h (1 + n) (omega arith) (omega arith)) refl refl tt
       performed-call command.Request n row known h =
-          let two = eqb-true n 2 row in
-          request-call (1 + n) (whole known h) (omega arith) (read known h 3 (omega arith) (omega arith)) _ _ refl
+          request-call (1 + n) (all-met known h) (read known h (1 + n) (omega arith) (omega arith)) _ _
       performed-call command.StartOver n row known h = absurd (true≢false (sym row))
       performed-call command.JumpAndClose n row known h =
           let judges = entry-judges (s .windows) _ in
-          let count = close-count (s .dialect) n row in
-          entered-call (1 + n) (whole known h) (closeWords (s .dialect)) (omega arith)
-          (close-answers (barred-judges _ (ends refusal.Totals refl) judges) _ _) (read known h (closeWords (s .dialect)) (omega arith) (omega arith))
-          (λ e. test-failed _ (ends refusal.Totals refl) judges (sym (close-number _ _ _) ∙ e))
+          entered-call (1 + n) (all-met known h) (close-answers (barred-judges _ (ends refusal.Totals refl) judges) _ _)
+          (read known h (1 + n) (omega arith) (omega arith)) (λ e. test-failed _ (ends refusal.Totals refl) judges (sym (close-number _ _ _) ∙ e))
       performed-call command.Ping n row known h = absurd (true≢false (sym row))
-      performed-call command.SequentialRead n row known h =
-          let none = eqb-true n 0 row in
-          goes-on (λ z. omega arith) (read known h (1 + n) (omega arith) (omega arith)) (omega arith) refl tt
+      performed-call command.SequentialRead n row known h = goes-on (λ z. omega arith) (read known h (1 + n) (omega arith) (omega arith)) refl refl tt
 
-      row-call : (found : Found) → lookedUp (wordAt image (s .offset)) Flash (s .dialect) ≡ found → s .offset + 4 ≤ length image → Answered (atRow s m image found)
+      followed-call : {r : Read} → ReadsAs image (s .offset) (s .dialect) r → Answered (followed s m image r)
       unfolding wordsFrom
-      row-call Unknown found here = stops refusal.Opcode (ends refusal.Opcode refl) (ap (countedOn (s .fetched)) (sym (met-found found here ∙ omega arith)))
-      row-call Retired found here = stops refusal.Retired (ends refusal.Retired refl) (ap (countedOn (s .fetched)) (sym (met-found found here ∙ omega arith)))
-      row-call (Known c arguments) found here =
-          of-choice Answered _
-          (λ e.
-          let short = lacking image _ _ (not-true _ e) in
-          stops refusal.Missing (ends refusal.Missing refl) (ap (countedOn (s .fetched)) (sym (met-found found here ∙ omega arith))))
-          (λ e. performed-call c arguments (row-is Flash (s .dialect) _ c arguments found) found (there image _ _ (not-false _ e)))
+      followed-call (no-opcode short) = stops refusal.Missing (ends refusal.Missing refl) (ap (countedOn (s .fetched)) (sym (met-none short)))
+      followed-call (unknown here e) =
+          stops refusal.Opcode (ends refusal.Opcode refl) (ap (countedOn (s .fetched)) (sym (met-found e ∙ omega arith)))
+      followed-call (retired here e) =
+          stops refusal.Retired (ends refusal.Retired refl) (ap (countedOn (s .fetched)) (sym (met-found e ∙ omega arith)))
+      followed-call (cut-short here e short) =
+          stops refusal.Missing (ends refusal.Missing refl) (ap (countedOn (s .fetched)) (sym (met-found e ∙ omega arith)))
+      followed-call (whole e there) = performed-call _ _ (row-is Flash (s .dialect) _ _ _ e) e there
 
 pub every-call : EveryCall
 unfolding stepOf
@@ -324,7 +299,5 @@ every-call s m image =
     of-choice Answered _ (λ over. spared s image refusal.Ended refl (λ z. omega arith) (sym over))
     (λ standing. of-choice Answered _ (λ e. spared s image refusal.Memory refl (λ z. omega arith) (sym standing))
     (λ e. of-choice Answered _ (λ e. spared s image refusal.Image refl (λ z. omega arith) (sym standing))
-    (λ sound. of-choice Answered _ (λ e. stops s image standing refusal.Missing (ends refusal.Missing refl)
-    (counted-none (s .fetched) ∙ ap (countedOn (s .fetched)) (sym (met-none s image (lacking image _ _ (not-true _ e))))))
-    (λ e. row-call s image standing m (eqb-true _ _ (both (goodLength (length image)) _ (not-false _ sound) .1))
-    (lookedUp (wordAt image (s .offset)) Flash (s .dialect)) refl (there image _ _ (not-false _ e))))))
+    (λ sound. followed-call s image standing m (eqb-true _ _ (both (goodLength (length image)) _ (not-false _ sound) .1))
+    (how-read image (s .offset) (s .dialect)))))

@@ -1,37 +1,28 @@
 -- What a call comes to, by the facts that its tests ask. Each law takes the tests of a definition one after the other.
-use Prim.Native.Nat.{ℕ, _+_, _*_, _/_, _%_, _≤_, _<_}
+use Prim.Native.Nat.{ℕ, _+_, _%_, _≤_}
 use mathlib.Core.Bool.{true, false, not, _&&_}
 use mathlib.Core.List.{List}
 use mathlib.Core.Path.{_≡_, ap, _∙_}
+use native.Mathlib.Omega.{arith}
 use lib.Dec.{eqb, leb}
 use lib.ListN.{length}
-use borrow.Author.Tests.{le-leb, lt-leb, eq-eqb, ne-eqb, leb-true, eqb-true}
+use borrow.Author.Tests.{eq-eqb, ne-eqb, leb-true, eqb-true}
 use Rattle.words.specs.rules.Bytes.{wordAt}
 use Rattle.words.proofs.Choice.{chosen, passed, both}
 use Rattle.windows.specs.rules.Window.{sumOf}
 use Rattle.opcodes.specs.rules.Opcodes.{lookedUp}
 use Rattle.opcodes.specs.declared.Command.{Command}
-use Rattle.opcodes.specs.declared.Command.the-variants as command
-use Rattle.opcodes.specs.declared.Found.{Found}
 use Rattle.opcodes.specs.declared.Found.the-variants.{Known}
 use Rattle.opcodes.specs.declared.Mode.the-variants.{Flash}
 use Rattle.opcodes.specs.declared.Refusal.the-variants as refusal
 use Rattle.ledger.specs.rules.Totals.{isSpent}
-use Rattle.commands.specs.rules.Commands.{multiple, loadJudged, fillJudged, settingJudged}
-use Rattle.commands.specs.declared.Judged.{Judged}
+use Rattle.reading.specs.rules.Reading.{present, pastWords, dataWords, readAt}
+use Rattle.reading.proofs.Reading.{read-row, row-whole}
+use Rattle.commands.specs.rules.Commands.{multiple}
 use Rattle.flash.specs.rules.Opening.{goodLength}
 use Rattle.flash.specs.rules.Sessions.{_leaving_, fetching, unchanged, stopped}
-use Rattle.flash.specs.rules.Step.{present, wordsFrom, argument, overflowing, outOfNumbers, loadDone, loadAt, loadJudgedAs, fillJudgedAs, settingJudgedAs, performed, atRow, stepOf}
+use Rattle.flash.specs.rules.Step.{loadDone, loadAt, performed, followed, stepOf}
 use Rattle.flash.specs.declared.Session.{Session}
-
--- words that are there, and words that are not
-there : (image : List ℕ) (at n : ℕ) → at + 4 * n ≤ length image → not (present image at n) ≡ false
-unfolding present
-there image at n h = ap not (le-leb _ _ h)
-
-lacking : (image : List ℕ) (at n : ℕ) → length image < at + 4 * n → not (present image at n) ≡ true
-unfolding present
-lacking image at n h = ap not (lt-leb _ _ h)
 
 -- an image has at most 65,536 bytes
 pub length-small : (n : ℕ) → goodLength n ≡ true → n ≤ 65536
@@ -48,51 +39,22 @@ unfolding goodLength multiple
 length-whole n e = eqb-true _ _ (both (eqb (n % 4) 0) (leb 4 n) (both (eqb (n % 4) 0 && leb 4 n) (leb n 65536) e .0) .0)
 
 module _ (s : Session) (m image : List ℕ) where
-  -- a load whose data are cut short
-  pub load-short : (address size place : ℕ) → length image < s .offset + 12 + 4 * ((size + 3) / 4)
-      → loadAt s m image address size place ≡ stopped refusal.Missing s leaving m
-  unfolding loadAt
-  load-short address size place h = chosen _ _ _ (lacking image (s .offset + 12) ((size + 3) / 4) h)
+  -- a load granted at a place: its data cut short, no number for it, and one
+  module _ (next address size place : ℕ) where
+    pub load-short : present image next (dataWords size) ≡ false → loadAt s m image next address size place ≡ stopped refusal.Missing s leaving m
+    unfolding loadAt
+    load-short e = chosen _ _ _ (ap not e)
 
-  -- no number for it, and one
-  pub load-spent : (address size place : ℕ) → s .offset + 12 + 4 * ((size + 3) / 4) ≤ length image → isSpent (s .totals) ≡ true
-      → loadAt s m image address size place ≡ stopped refusal.Number s leaving m
-  unfolding loadAt
-  load-spent address size place h spent = passed _ _ _ (there image (s .offset + 12) ((size + 3) / 4) h) ∙ chosen _ _ _ spent
+    module _ (there : present image next (dataWords size) ≡ true) where
+      pub load-spent : isSpent (s .totals) ≡ true → loadAt s m image next address size place ≡ stopped refusal.Number s leaving m
+      unfolding loadAt
+      load-spent spent = passed _ _ _ (ap not there) ∙ chosen _ _ _ spent
 
-  pub load-whole : (address size place : ℕ) → s .offset + 12 + 4 * ((size + 3) / 4) ≤ length image → isSpent (s .totals) ≡ false
-      → loadAt s m image address size place ≡ loadDone s m image address size place
-  unfolding loadAt
-  load-whole address size place h unspent = passed _ _ _ (there image (s .offset + 12) ((size + 3) / 4) h) ∙ passed _ _ _ unspent
+      pub load-whole : isSpent (s .totals) ≡ false → loadAt s m image next address size place ≡ loadDone s m image next address size place
+      unfolding loadAt
+      load-whole unspent = passed _ _ _ (ap not there) ∙ passed _ _ _ unspent
 
-  -- the commands on their words, however these were read
-  pub load-read : {address size : ℕ} {judged : Judged} → address ≡ argument s image 0 → size ≡ argument s image 1
-      → judged ≡ overflowing s size (loadJudged (s .windows) address size)
-      → loadJudgedAs s m image address size judged ≡ performed command.Load s m image
-  load-read p q j = rw (j, p, q)
-
-  pub fill-read : {address size kind pattern : ℕ} {judged : Judged} → address ≡ argument s image 0 → size ≡ argument s image 1
-      → kind ≡ argument s image 2 → pattern ≡ argument s image 3
-      → judged ≡ outOfNumbers s (overflowing s size (fillJudged (s .windows) address size kind))
-      → fillJudgedAs s m address size kind pattern judged ≡ performed command.Fill s m image
-  fill-read p q k v j = rw (j, p, q, k, v)
-
-  pub setting-read : {word address value delay : ℕ} {judged : Judged} → word ≡ argument s image 0 → address ≡ argument s image 1
-      → value ≡ argument s image 2 → delay ≡ argument s image 3
-      → judged ≡ outOfNumbers s (settingJudged (s .windows) word address value)
-      → settingJudgedAs s m word value delay judged ≡ performed command.BootTable s m image
-  setting-read p q k v j = rw (j, p, q, k, v)
-
-  -- a row whose argument words are cut short, and one whose words are there
-  module _ {found : Found} {command : Command} {words : ℕ} (known : found ≡ Known command words) where
-    pub row-short : length image < s .offset + 4 + 4 * words
-        → atRow s m image found ≡ stopped refusal.Missing (fetching (1 + wordsFrom image (s .offset + 4)) s) leaving m
-    row-short h = ap (λ (f : Found). atRow s m image f) known ∙ chosen _ _ _ (lacking image (s .offset + 4) words h)
-
-    pub row-whole : s .offset + 4 + 4 * words ≤ length image → atRow s m image found ≡ performed command (fetching (1 + words) s) m image
-    row-whole h = ap (λ (f : Found). atRow s m image f) known ∙ passed _ _ _ (there image (s .offset + 4) words h)
-
-  -- a call: each refusal in its case, and the command where there is none
+  -- a call: each refusal in its case, and what was read where there is none
   pub call-ended : s .ended ≡ true → stepOf s m image ≡ unchanged refusal.Ended s leaving m
   unfolding stepOf
   call-ended e = chosen _ _ _ e
@@ -109,14 +71,14 @@ module _ (s : Session) (m image : List ℕ) where
       call-image e = passed _ _ _ running ∙ passed _ _ _ (ap not (eq-eqb _ _ lent)) ∙ chosen _ _ _ (ap not e)
 
       module _ (sound : (goodLength (length image) && eqb (length image) (s .length)) ≡ true) where
-        pub call-short : length image < s .offset + 4 → stepOf s m image ≡ stopped refusal.Missing s leaving m
+        pub call-read : stepOf s m image ≡ followed s m image (readAt image (s .offset) (s .dialect))
         unfolding stepOf
-        call-short h =
-            passed _ _ _ running ∙ passed _ _ _ (ap not (eq-eqb _ _ lent)) ∙ passed _ _ _ (ap not sound)
-            ∙ chosen _ _ _ (lacking image (s .offset) 1 h)
+        call-read = passed _ _ _ running ∙ passed _ _ _ (ap not (eq-eqb _ _ lent)) ∙ passed _ _ _ (ap not sound)
 
-        pub call-row : s .offset + 4 ≤ length image → stepOf s m image ≡ atRow s m image (lookedUp (wordAt image (s .offset)) Flash (s .dialect))
-        unfolding stepOf
-        call-row h =
-            passed _ _ _ running ∙ passed _ _ _ (ap not (eq-eqb _ _ lent)) ∙ passed _ _ _ (ap not sound)
-            ∙ passed _ _ _ (there image (s .offset) 1 h)
+        -- a row that is found, its command's words there
+        pub call-whole : (c : Command) (words : ℕ) → lookedUp (wordAt image (s .offset)) Flash (s .dialect) ≡ Known c words
+            → pastWords (s .offset) words ≤ length image
+            → stepOf s m image ≡ performed c (pastWords (s .offset) words) (fetching (1 + words) s) m image
+        call-whole c words known there =
+            call-read
+            ∙ ap (followed s m image) (read-row image (s .offset) (s .dialect) (omega arith) ∙ row-whole image (s .offset) known there)

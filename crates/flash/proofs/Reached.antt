@@ -11,11 +11,12 @@ use Rattle.words.proofs.Choice.{both, of-choice}
 use Rattle.windows.specs.rules.Window.{sumOf}
 use Rattle.windows.specs.declared.Window.{Window}
 use Rattle.opcodes.specs.declared.Dialect.{Dialect}
+use Rattle.reading.specs.rules.Reading.{present, readAt}
 use Rattle.commands.specs.rules.Commands.{multiple}
 use Rattle.flash.specs.claims.Calls.{Way, forward, back, kept, Call}
 use Rattle.flash.specs.rules.Opening.{goodLength, openedBy}
 use Rattle.flash.specs.claims.Reached.{Reached, opened, called, Looks, at-opcode, at-argument, at-data, NoWordCut, ReachedIsNeeded}
-use Rattle.flash.specs.rules.Step.{present, stepOf}
+use Rattle.flash.specs.rules.Step.{stepOf}
 use Rattle.flash.specs.declared.Called.{Called}
 use Rattle.flash.specs.declared.Opened.{Opened}
 use Rattle.flash.specs.declared.Session.{Session}
@@ -31,7 +32,8 @@ call-aligned {s} {image} {a} aligned call = go (call .way)
     go (back b) = b .aligned
     go (kept k) = omega arith
 
-opened-aligned : (dialect : Dialect) (count : ℕ) (windows : List Window) (image : List ℕ) (limit : ℕ) → openedBy dialect count windows image limit .session .offset % 4 ≡ 0
+opened-aligned : (dialect : Dialect) (count : ℕ) (windows : List Window) (image : List ℕ) (limit : ℕ)
+    → openedBy dialect count windows image limit .session .offset % 4 ≡ 0
 unfolding openedBy
 opened-aligned dialect count windows image limit =
     let Aligned : Opened → Type 0 = λ o. o .session .offset % 4 ≡ 0 in
@@ -46,7 +48,7 @@ reached-aligned (called {s} lent reached) =
 looks-aligned : {s : Session} {at : ℕ} → s .offset % 4 ≡ 0 → Looks s at → at % 4 ≡ 0
 looks-aligned aligned at-opcode = aligned
 looks-aligned aligned (at-argument i) = omega arith
-looks-aligned aligned (at-data i) = omega arith
+looks-aligned aligned (at-data words i) = omega arith
 
 pub no-word-cut : NoWordCut
 no-word-cut s reached image sound at looks cut =
@@ -55,7 +57,7 @@ no-word-cut s reached image sound at looks cut =
     omega arith
 
 pub reached-is-needed : ReachedIsNeeded
-unfolding stepOf goodLength multiple present sumOf pick
+unfolding stepOf goodLength multiple readAt present sumOf pick
 reached-is-needed =
     record {
       unreached = λ reached. let aligned = reached-aligned reached in omega arith;

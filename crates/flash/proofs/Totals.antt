@@ -1,25 +1,21 @@
 -- The totals since an opening, by the law of a call: a call that goes forward counts a load or a fill in whole numbers and nothing else, one that goes back
 -- counts a retry, and one that is refused keeps them. In AM17xx each part of the rules gives the same, whatever the totals are.
-use Prim.Native.Nat.{ℕ, _+_, _*_, _≤_}
+use Prim.Native.Nat.{ℕ, _+_, _≤_}
 use mathlib.Core.Bool.{Bool, true, false}
 use mathlib.Core.List.{List, [], _∷_}
 use mathlib.Core.Path.{_≡_, refl, sym, ap, ap₂, subst, _∙_}
 use native.Mathlib.Omega.{arith}
 use lib.ListN.{length}
 use borrow.Author.Tests.{eq-eqb, ne-eqb}
-use Rattle.words.specs.rules.Bytes.{wordAt}
 use Rattle.words.specs.rules.Choice.{pick}
 use Rattle.words.proofs.Choice.{chosen, passed, of-choice}
 use Rattle.windows.specs.declared.Window.{Window}
 use Rattle.opcodes.specs.rules.Answers.{codeOf, kindOf}
-use Rattle.opcodes.specs.rules.Opcodes.{lookedUp}
 use Rattle.opcodes.specs.declared.Command.{Command}
 use Rattle.opcodes.specs.declared.Command.the-variants as command
 use Rattle.opcodes.specs.declared.Dialect.{Dialect}
 use Rattle.opcodes.specs.declared.Dialect.the-variants.{Am17xx, Dm648}
 use Rattle.opcodes.specs.declared.Found.{Found}
-use Rattle.opcodes.specs.declared.Found.the-variants.{Known, Retired, Unknown}
-use Rattle.opcodes.specs.declared.Mode.the-variants.{Flash}
 use Rattle.ledger.specs.claims.Agreement.{plus}
 use Rattle.ledger.specs.rules.Totals.{atOpening, wouldPass, differs, following, numberedAs, inFlash}
 use Rattle.ledger.specs.declared.Happening.{Happening}
@@ -27,6 +23,9 @@ use Rattle.ledger.specs.declared.Happening.the-variants as happened
 use Rattle.ledger.specs.declared.Standing.{Standing}
 use Rattle.ledger.specs.declared.Totals.{Totals}
 use Rattle.ledger.proofs.Laws.{names-them, plus-none, plus-more, plus-one}
+use Rattle.reading.specs.rules.Reading.{pastWords, argument, readAt}
+use Rattle.reading.specs.declared.Read.{Read}
+use Rattle.reading.specs.declared.Read.the-variants as read
 use Rattle.commands.specs.rules.Commands.{loadJudged, soughtFrom}
 use Rattle.commands.specs.declared.Done.{Done}
 use Rattle.commands.specs.declared.Judged.{Judged}
@@ -34,12 +33,13 @@ use Rattle.commands.specs.declared.Judged.the-variants.{Granted, Refused}
 use Rattle.commands.specs.declared.Sought.{Sought}
 use Rattle.commands.specs.declared.Sought.the-variants as sought
 use Rattle.commands.specs.declared.Wrote.{Wrote}
-use Rattle.flash.specs.claims.Calls.{happening, Fits, Way, forward, back, kept, Call}
+use Rattle.flash.specs.claims.Calls.{named, happening, Fits, Way, forward, back, kept, Call}
 use Rattle.flash.specs.rules.Opening.{openedBy}
 use Rattle.flash.specs.claims.Reached.{Reached, opened, called}
-use Rattle.flash.specs.rules.Sessions.{CallOutcome, goTo, withTotals, fetching, accepted}
-use Rattle.flash.specs.rules.Step.{argument, after, overflowing, loadAt, loadJudgedAs, soughtAs, requested, named, entered, performed, atRow, stepOf}
-use Rattle.flash.specs.claims.Totals.{Lent, answerTo, afterCalls, sizesIn, sizesFound, acceptedIn, sizesAccepted, CountsAccepted, EntersOnTotals, untold, Am17xxHasNone}
+use Rattle.flash.specs.rules.Sessions.{CallOutcome, goTo, withTotals, fetching, acceptedAs}
+use Rattle.flash.specs.rules.Step.{after, overflowing, loadAt, loadJudgedAs, soughtAs, requested, entered, performed, followed, stepOf}
+use Rattle.flash.specs.claims.Totals.{Lent, answerTo, afterCalls, sizesIn, sizesFound, acceptedIn, sizesAccepted, CountsAccepted, EntersOnTotals, untold}
+use Rattle.flash.specs.claims.Totals.{Am17xxHasNone}
 use Rattle.flash.specs.declared.Called.{Called}
 use Rattle.flash.specs.declared.Opened.{Opened}
 use Rattle.flash.specs.declared.Session.{Session}
@@ -89,7 +89,7 @@ module _ (s : Session) (lent : Lent) where
     where
       go : Way s (lent .image) answer → answer .session .totals .now ≡ plus (s .totals .now) (acceptedIn s lent)
       go (forward f) =
-          let size = argument s (lent .image) 1 in
+          let size = argument (lent .image) (s .offset) 1 in
           ap (λ (t : Totals). t .now) (f .totals)
           ∙ command-stands s size dialect (f .command) (f .fits)
           ∙ ap (plus (s .totals .now))
@@ -152,7 +152,7 @@ call-zero {s} {image} {a} dialect zero way = go way
     stays h = ap₂ (λ (d : Dialect) (t : Totals). inFlash d t h) dialect zero ∙ zero-stays h
 
     go : Way s image a → a .session .totals ≡ atOpening
-    go (forward f) = f .totals ∙ stays (happening (f .command) (argument s image 1))
+    go (forward f) = f .totals ∙ stays (happening (f .command) (argument image (s .offset) 1))
     go (back b) = b .totals ∙ stays happened.Retried
     go (kept k) = k .totals ∙ zero
 
@@ -222,57 +222,58 @@ module _ (m image : List ℕ) (first second numbers : Totals) where
   happens-alike happened.Other = refl
 
   module _ (s : Session) where
-    after-alike : (h : Happening) (wrote : Wrote) (done : Done) (n : ℕ) → AnswerAlike (after (withNone s t) h wrote done n) (after (withNone s u) h wrote done n)
+    after-alike : (h : Happening) (wrote : Wrote) (done : Done) (n : ℕ)
+        → AnswerAlike (after (withNone s t) h wrote done n) (after (withNone s u) h wrote done n)
     unfolding after
     after-alike h wrote done n =
         answer-choice _
-        (record { told = ap (λ (v : Totals). untold (accepted (withNone s v) happened.Other wrote (done .event) (goTo (withNone s v) (done .checksum) (s .offset + 4 * n)))) (happens-alike h) })
+        (record {
+          told = ap (λ (v : Totals). untold (acceptedAs (withNone s v) happened.Other wrote (done .event) (goTo (withNone s v) (done .checksum) n)))
+              (happens-alike h);
+        })
         (record { told = refl })
 
-    load-alike : (address size : ℕ) (judged : Judged)
-        → Alike (loadJudgedAs (withNone s t) m image address size judged) (loadJudgedAs (withNone s u) m image address size judged)
+    load-alike : (next address size : ℕ) (judged : Judged)
+        → Alike (loadJudgedAs (withNone s t) m image next address size judged) (loadJudgedAs (withNone s u) m image next address size judged)
     unfolding loadAt
-    load-alike address size (Granted place) =
+    load-alike next address size (Granted place) =
         alike-choice _ (record { answer = record { told = refl }; memory = refl })
         (alike-choice _ (record { answer = record { told = refl }; memory = refl }) (record { answer = record { told = refl }; memory = refl }))
-    load-alike address size (Refused q) = record { answer = record { told = refl }; memory = refl }
+    load-alike next address size (Refused q) = record { answer = record { told = refl }; memory = refl }
 
     sought-alike : (led : Sought) → AnswerAlike (soughtAs (withNone s t) led) (soughtAs (withNone s u) led)
     sought-alike (sought.To offset) = record { told = refl }
     sought-alike (sought.Refused q) = record { told = refl }
 
-    request-alike : (expected seek : ℕ) → AnswerAlike (requested (withNone s t) expected seek) (requested (withNone s u) expected seek)
+    request-alike : (next expected seek : ℕ) → AnswerAlike (requested (withNone s t) next expected seek) (requested (withNone s u) next expected seek)
     unfolding requested
-    request-alike expected seek = answer-choice _ (record { told = refl }) (answer-choice _ (record { told = refl }) (sought-alike (soughtFrom (s .offset) seek)))
+    request-alike next expected seek =
+        answer-choice _ (record { told = refl }) (answer-choice _ (record { told = refl }) (sought-alike (soughtFrom (s .offset) seek)))
 
-    performed-alike : (c : Command) → Alike (performed c (withNone s t) m image) (performed c (withNone s u) m image)
-    unfolding argument
-    performed-alike command.Load =
-        load-alike (argument s image 0) (argument s image 1)
-        (overflowing (withNone s t) (argument s image 1) (loadJudged (s .windows) (argument s image 0) (argument s image 1)))
-    performed-alike command.Fill = record { answer = after-alike _ _ _ _; memory = refl }
-    performed-alike command.BootTable = record { answer = after-alike _ _ _ _; memory = refl }
-    performed-alike command.Enable = record { answer = record { told = refl }; memory = refl }
-    performed-alike command.Disable = record { answer = record { told = refl }; memory = refl }
-    performed-alike command.Request = record { answer = request-alike _ _; memory = refl }
-    performed-alike command.StartOver = record { answer = record { told = refl }; memory = refl }
-    performed-alike command.JumpAndClose = record { answer = entered-alike (after-alike _ _ _ _); memory = refl }
-    performed-alike command.Ping = record { answer = record { told = refl }; memory = refl }
-    performed-alike command.SequentialRead = record { answer = record { told = refl }; memory = refl }
+    performed-alike : (c : Command) (next : ℕ) → Alike (performed c next (withNone s t) m image) (performed c next (withNone s u) m image)
+    performed-alike command.Load next =
+        load-alike next (argument image (s .offset) 0) (argument image (s .offset) 1)
+        (overflowing (withNone s t) (argument image (s .offset) 1) (loadJudged (s .windows) (argument image (s .offset) 0) (argument image (s .offset) 1)))
+    performed-alike command.Fill next = record { answer = after-alike _ _ _ _; memory = refl }
+    performed-alike command.BootTable next = record { answer = after-alike _ _ _ _; memory = refl }
+    performed-alike command.Enable next = record { answer = record { told = refl }; memory = refl }
+    performed-alike command.Disable next = record { answer = record { told = refl }; memory = refl }
+    performed-alike command.Request next = record { answer = request-alike _ _ _; memory = refl }
+    performed-alike command.StartOver next = record { answer = record { told = refl }; memory = refl }
+    performed-alike command.JumpAndClose next = record { answer = entered-alike (after-alike _ _ _ _); memory = refl }
+    performed-alike command.Ping next = record { answer = record { told = refl }; memory = refl }
+    performed-alike command.SequentialRead next = record { answer = record { told = refl }; memory = refl }
 
-  row-alike : (s : Session) (found : Found) → Alike (atRow (withNone s t) m image found) (atRow (withNone s u) m image found)
-  row-alike s Unknown = record { answer = record { told = refl }; memory = refl }
-  row-alike s Retired = record { answer = record { told = refl }; memory = refl }
-  row-alike s (Known c words) =
-      alike-choice _ (record { answer = record { told = refl }; memory = refl }) (performed-alike (fetching (1 + words) s) c)
+  followed-alike : (s : Session) (r : Read) → Alike (followed (withNone s t) m image r) (followed (withNone s u) m image r)
+  followed-alike s (read.Refused q fetched) = record { answer = record { told = refl }; memory = refl }
+  followed-alike s (read.Whole c words) = performed-alike (fetching (1 + words) s) c (pastWords (s .offset) words)
 
   step-alike : (s : Session) → Alike (stepOf (withNone s t) m image) (stepOf (withNone s u) m image)
   unfolding stepOf
   step-alike s =
       alike-choice _ (record { answer = record { told = refl }; memory = refl })
       (alike-choice _ (record { answer = record { told = refl }; memory = refl })
-      (alike-choice _ (record { answer = record { told = refl }; memory = refl })
-      (alike-choice _ (record { answer = record { told = refl }; memory = refl }) (row-alike s (lookedUp (wordAt image (s .offset)) Flash Am17xx)))))
+      (alike-choice _ (record { answer = record { told = refl }; memory = refl }) (followed-alike s (readAt image (s .offset) Am17xx))))
 
 pub am17xx-has-none : Am17xxHasNone
 am17xx-has-none =

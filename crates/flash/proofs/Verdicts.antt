@@ -15,7 +15,8 @@ use Rattle.opcodes.specs.declared.Event.{Event}
 use Rattle.opcodes.specs.declared.Event.the-variants as event
 use Rattle.opcodes.specs.declared.Refusal.{Refusal}
 use Rattle.opcodes.specs.declared.Refusal.the-variants as refusal
-use Rattle.commands.specs.rules.Commands.{judgedCode, multiple, doneIf, barred, loadJudged, fillJudged, fillDone, settingJudged, settingDone, entryJudged, closeDone, target, soughtFrom}
+use Rattle.commands.specs.rules.Commands.{judgedCode, multiple, doneIf, barred, loadJudged, fillJudged, fillDone, settingJudged, settingDone, entryJudged}
+use Rattle.commands.specs.rules.Commands.{closeDone, target, soughtFrom}
 use Rattle.commands.proofs.Judging.{EachRefusal, Passes, load-passes, fill-passes, setting-passes, entry-passes}
 use Rattle.commands.specs.declared.Done.{Done}
 use Rattle.commands.specs.declared.Judged.{Judged}

@@ -15,11 +15,12 @@ use Rattle.windows.specs.rules.Window.{hasRight, inside, grantsRange, placeFrom
 use Rattle.windows.specs.declared.Window.{Window}
 use Rattle.opcodes.specs.rules.Opcodes.{rows, rowServes, foundIn, lookedUp}
 use Rattle.opcodes.specs.declared.Dialect.{Dialect}
+use Rattle.reading.specs.rules.Reading.{present, argument, readAt}
 use Rattle.commands.specs.rules.Commands.{multiple, entryJudged, closeDone}
 use Rattle.flash.specs.rules.Opening.{goodLength, openedBy}
 use Rattle.flash.specs.claims.Reached.{Reached, opened, called}
 use Rattle.flash.specs.rules.Sessions.{CallOutcome, countedOn}
-use Rattle.flash.specs.rules.Step.{present, argument, after, stepOf}
+use Rattle.flash.specs.rules.Step.{after, stepOf}
 use Rattle.flash.specs.declared.Session.{Session}
 use Rattle.flash_runs.specs.rules.Run.{carriedOn, enough, runOf}
 use Rattle.flash_runs.specs.claims.Ceiling.{wordsOf, ceiling, Ceiling, CeilingMet}
@@ -94,5 +95,5 @@ ceilings =
 -- the definitions compute
 pub ceiling-met : CeilingMet
 unfolding pick join number bytesAt wordAt hasRight inside grantsRange placeFrom placeOf sumOf soundWindow allSound rising goodMap keptOf
-    rows rowServes foundIn lookedUp multiple entryJudged closeDone goodLength openedBy countedOn present argument after stepOf
+    rows rowServes foundIn lookedUp multiple entryJudged closeDone goodLength openedBy countedOn present argument readAt after stepOf
 ceiling-met = record { fetched = refl; most = refl }

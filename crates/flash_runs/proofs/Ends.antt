@@ -12,13 +12,14 @@ use Rattle.words.proofs.Choice.{by-test}
 use Rattle.opcodes.specs.rules.Answers.{codeOf, kindOf}
 use Rattle.opcodes.specs.declared.Refusal.the-variants.{None, Ended as Over}
 use Rattle.flash.specs.claims.Calls.{Forward, Back, Way, forward, back, kept, Call}
-use Rattle.flash.specs.rules.Sessions.{CallOutcome, _leaving_, unchanged}
+use Rattle.flash.specs.rules.Sessions.{CallOutcome, unchanged}
 use Rattle.flash.specs.rules.Step.{stepOf}
 use Rattle.flash.specs.declared.Called.{Called}
 use Rattle.flash.specs.declared.Session.{Session}
 use Rattle.flash.proofs.Calls.{every-call}
 use Rattle.flash.proofs.Cases.{call-ended}
-use Rattle.flash_runs.specs.rules.Run.{goesOn, carriedOn, enough, runOf, Ended, entering, refused}
+use Rattle.flash_runs.specs.rules.Run.{goesOn, carriedOn, enough, runOf}
+use Rattle.flash_runs.specs.claims.Ends.{RunEnds, Ended, entering, refused}
 use Rattle.flash_runs.proofs.Calls.{accepted-goes, refused-stops, stays, goes}
 
 -- words still to pass: those of the image for each retry that is left, and those from the offset on
@@ -112,11 +113,6 @@ module _ (image : List ℕ) where
       (λ none. stays image (suc k) o none ∙ sym (stays image (suc n) o none))
 
 module _ (s : Session) (m image : List ℕ) where
-  -- a run of an ended session is one call
-  pub run-of-ended : s .ended ≡ true → runOf s m image ≡ unchanged Over s leaving m
-  unfolding runOf
-  run-of-ended e = stays image (enough s) (stepOf s m image) (ended-stops s m image e) ∙ call-ended s m image e
-
   -- a run of any other ends by entering, or by a refusal that is not 14
   pub run-reaches-end : s .ended ≡ false → Ended (runOf s m image .answer)
   unfolding runOf
@@ -136,3 +132,7 @@ module _ (s : Session) (m image : List ℕ) where
   pub more-is-same : (n : ℕ) → enough s ≤ n → carriedOn n (stepOf s m image) image ≡ runOf s m image
   unfolding runOf
   more-is-same n h = longer image (enough s) n (stepOf s m image) h run-ends
+
+pub every-run-ends : (s : Session) (m image : List ℕ) → RunEnds s m image
+every-run-ends s m image =
+    record { reaches-end = run-reaches-end s m image; ends = run-ends s m image; more-is-same = more-is-same s m image }

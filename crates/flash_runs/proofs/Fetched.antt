@@ -17,13 +17,14 @@ use Rattle.opcodes.specs.rules.Answers.{codeOf}
 use Rattle.opcodes.specs.declared.Command.{Command}
 use Rattle.opcodes.specs.declared.Refusal.{Refusal}
 use Rattle.opcodes.specs.declared.Refusal.the-variants.{None, Map, Image, Magic, Ended}
+use Rattle.reading.specs.rules.Reading.{wordsFrom}
 use Rattle.commands.specs.rules.Commands.{multiple}
 use Rattle.flash.specs.claims.Calls.{met, Reads, Forward, Back, Kept, spares, Way, forward, back, kept, Call}
 use Rattle.opcodes.specs.declared.Dialect.{Dialect}
 use Rattle.flash.specs.rules.Opening.{goodLength, openedBy}
 use Rattle.flash.specs.claims.Reached.{Reached, opened, called}
 use Rattle.flash.specs.rules.Sessions.{CallOutcome, countedOn}
-use Rattle.flash.specs.rules.Step.{wordsFrom, stepOf}
+use Rattle.flash.specs.rules.Step.{stepOf}
 use Rattle.flash.specs.declared.Called.{Called}
 use Rattle.flash.specs.declared.Opened.{Opened}
 use Rattle.flash.specs.declared.Session.{Session}
@@ -207,7 +208,8 @@ unfolding goodLength
 length-least n e = leb-true _ _ (both (multiple n 4) (leb 4 n) (both (multiple n 4 && leb 4 n) (leb n 65536) e .0) .1)
 
 opened-standing : (dialect : Dialect) (count : ℕ) (windows : List Window) (image : List ℕ) (limit : ℕ)
-    → Standing (openedBy dialect count windows image limit .session) (openingFetches (openedBy dialect count windows image limit .refusal)) limit (length image / 4)
+    → Standing (openedBy dialect count windows image limit .session) (openingFetches (openedBy dialect count windows image limit .refusal)) limit
+    (length image / 4)
 unfolding openedBy
 opened-standing dialect count windows image limit =
     let Stands : Opened → Type 0 = λ o. Standing (o .session) (openingFetches (o .refusal)) limit (length image / 4) in

@@ -2,3 +2,4 @@ pub mod Calls
 pub mod Ceiling
 pub mod Ends
 pub mod Fetched
+mod Running

@@ -1,2 +1,3 @@
 pub mod Ceiling
+pub mod Ends
 pub mod Fetched

@@ -1,11 +1,20 @@
-// A run of one unchanged image.
+// A run of one unchanged image from its opening, and beside chosen words two rows of entries (02, request 6). In one stands the number of the command that
+// wrote each bit last, in the other that command's offset in the image.
 ghost use mathlib.Core.Path.{_≡_};
-ghost use Rattle.flash_runs.specs.rules.Run.{goesOn, runOf};
+ghost use lib.ListN.{take};
+ghost use Rattle.bit_stamps.specs.rules.Stamps.{stamped};
+ghost use Rattle.flash.specs.rules.Step.{stepOf};
+ghost use Rattle.flash_runs.specs.rules.Entries.{callEntries, callOffsets, runEntries, runOffsets, entriesFrom, offsetsFrom};
+ghost use Rattle.commands.specs.rules.Wrote.{renumbered};
+ghost use Rattle.flash_runs.specs.rules.Run.{goesOn, runOf, ranFrom};
+use commands::Wrote;
 use flash::Called;
+use flash::Opened;
 use flash::Session;
+use opcodes::Event;
 
 // Does the session go on after a call?
-pub fn goes_on(called: Called) -> bool
+fn goes_on(called: Called) -> bool
     ensures { λ r. ⌜ r ≡ goesOn called ⌝ }
 {
     let refusal = called.refusal;
@@ -15,15 +24,87 @@ pub fn goes_on(called: Called) -> bool
     false
 }
 
+// The same bits, by another number.
+fn renumber(number: u32, wrote: Wrote) -> Wrote
+    ensures { λ r. ⌜ r ≡ renumbered number wrote ⌝ }
+{
+    Wrote {
+        place: wrote.place,
+        start: wrote.start,
+        count: wrote.count,
+        number,
+    }
+}
+
+// The bits that a command at an offset wrote get its number, and its offset. Where there is nothing to stamp, no word is looked at.
+fn stamp_both(
+    wrote: Wrote,
+    at: u32,
+    count: usize,
+    places: &[usize],
+    numbers: &mut [u8],
+    offsets: &mut [u8],
+)
+    ensures { λ _. ⌜ now (numbers .exit) ≡ stamped (now (numbers .entry)) (take count (now (places .entry))) wrote ⌝ }
+    ensures { λ _. ⌜ now (offsets .exit) ≡ stamped (now (offsets .entry)) (take count (now (places .entry))) (renumbered at wrote) ⌝ }
+{
+    if wrote.count == 0 {
+        return;
+    }
+    if count == 0 {
+        return;
+    }
+    bit_stamps::stamp(numbers, count, places, wrote);
+    if offsets.len() == 0 {
+        return;
+    }
+    bit_stamps::stamp(offsets, count, places, renumber(at, wrote));
+}
+
+// One call, and what it wrote told in the entries.
+fn call(
+    session: Session,
+    count: usize,
+    places: &[usize],
+    memory: &mut [u8],
+    image: &[u8],
+    numbers: &mut [u8],
+    offsets: &mut [u8],
+) -> Called
+    ensures { λ r. ⌜ r ≡ stepOf session (now (memory .entry)) (now (image .entry)) .answer ⌝ }
+    ensures { λ _. ⌜ now (memory .exit) ≡ stepOf session (now (memory .entry)) (now (image .entry)) .memory ⌝ }
+    ensures { λ _.
+        ⌜ now (numbers .exit) ≡ callEntries (take count (now (places .entry))) (now (numbers .entry)) session (now (memory .entry)) (now (image .entry)) ⌝ }
+    ensures { λ _.
+        ⌜ now (offsets .exit) ≡ callOffsets (take count (now (places .entry))) (now (offsets .entry)) session (now (memory .entry)) (now (image .entry)) ⌝ }
+{
+    let called = session.step(memory, image);
+    let wrote = called.wrote;
+    stamp_both(wrote, called.at, count, places, numbers, offsets);
+    called
+}
+
 // Calls until one is refused or the session ends.
-pub fn run(session: Session, memory: &mut [u8], image: &[u8]) -> Called
+fn run(
+    session: Session,
+    count: usize,
+    places: &[usize],
+    memory: &mut [u8],
+    image: &[u8],
+    numbers: &mut [u8],
+    offsets: &mut [u8],
+) -> Called
     ensures { λ r. ⌜ r ≡ runOf session (now (memory .entry)) (now (image .entry)) .answer ⌝ }
     ensures { λ _. ⌜ now (memory .exit) ≡ runOf session (now (memory .entry)) (now (image .entry)) .memory ⌝ }
+    ensures { λ _.
+        ⌜ now (numbers .exit) ≡ runEntries (take count (now (places .entry))) (now (numbers .entry)) session (now (memory .entry)) (now (image .entry)) ⌝ }
+    ensures { λ _.
+        ⌜ now (offsets .exit) ≡ runOffsets (take count (now (places .entry))) (now (offsets .entry)) session (now (memory .entry)) (now (image .entry)) ⌝ }
 {
     let mut left = ((session.limit as u64) + 1) * ((session.length as u64) / 4);
     let mut live = session;
     loop {
-        let called = live.step(memory, image);
+        let called = call(live, count, places, memory, image, numbers, offsets);
         if left == 0 {
             return called;
         }
@@ -33,4 +114,55 @@ pub fn run(session: Session, memory: &mut [u8], image: &[u8]) -> Called
         live = called.session;
         left -= 1;
     }
+}
+
+// Runs the image from an opening, the first count places watched; where that is refused, nothing is run. An empty row of entries stays empty.
+pub fn run_from(
+    opened: Opened,
+    count: usize,
+    places: &[usize],
+    memory: &mut [u8],
+    image: &[u8],
+    numbers: &mut [u8],
+    offsets: &mut [u8],
+) -> Called
+    ensures { λ r. ⌜ r ≡ ranFrom opened (now (memory .entry)) (now (image .entry)) .answer ⌝ }
+    ensures { λ _. ⌜ now (memory .exit) ≡ ranFrom opened (now (memory .entry)) (now (image .entry)) .memory ⌝ }
+    ensures { λ _.
+        ⌜ now (numbers .exit) ≡ entriesFrom (take count (now (places .entry))) (now (numbers .entry)) opened (now (memory .entry)) (now (image .entry)) ⌝ }
+    ensures { λ _.
+        ⌜ now (offsets .exit) ≡ offsetsFrom (take count (now (places .entry))) (now (offsets .entry)) opened (now (memory .entry)) (now (image .entry)) ⌝ }
+{
+    let refusal = opened.refusal;
+    let session = opened.session;
+    if refusal.code() == 0 {
+        return run(session, count, places, memory, image, numbers, offsets);
+    }
+    let wrote = commands::wrote_none();
+    Called {
+        refusal,
+        event: Event::Nothing,
+        at: 0,
+        session,
+        wrote,
+    }
+}
+
+// The same with no word watched. Plain runs and watched ones share one loop, so that the step has one caller.
+pub fn run_plain(opened: Opened, memory: &mut [u8], image: &[u8]) -> Called
+    ensures { λ r. ⌜ r ≡ ranFrom opened (now (memory .entry)) (now (image .entry)) .answer ⌝ }
+    ensures { λ _. ⌜ now (memory .exit) ≡ ranFrom opened (now (memory .entry)) (now (image .entry)) .memory ⌝ }
+{
+    let places = [0usize; 0];
+    let mut numbers = [0u8; 0];
+    let mut offsets = [0u8; 0];
+    run_from(
+        opened,
+        0,
+        &places,
+        memory,
+        image,
+        &mut numbers,
+        &mut offsets,
+    )
 }

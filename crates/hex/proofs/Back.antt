@@ -17,11 +17,13 @@ use Rattle.words.proofs.Choice.{chosen, passed}
 use Rattle.words.proofs.Joins.{join-lt}
 use Rattle.words.proofs.Numbers.{byte-number}
 use Rattle.words.proofs.Ranges.{inside, below, above}
-use Rattle.hex.specs.rules.Digits.{digitValue, isDigit, digitOf, digitAt, digitsOf, wordOf, bytesOf}
+use Rattle.digits.specs.rules.Digits.{digitValue, isDigit, digitOf}
+use Rattle.digits.specs.rules.Numbers.{areDigits, numberOf}
+use Rattle.digits.proofs.Digits.{number-value, capital-value, by-digit, by-value, value-small, known-digit, digit-number, digit-letter}
+use Rattle.digits.proofs.Numbers.{digit-in, digits-drop, number-lt, number-append}
+use Rattle.hex.specs.rules.Digits.{digitAt, digitsOf, wordOf, bytesOf}
 use Rattle.hex.specs.claims.RoundTrip.{capital}
 use Rattle.hex.specs.rules.Text.{allDigits, readWord, writtenWord}
-use Rattle.hex.proofs.Digits.{number-value, capital-value, by-digit, by-value, value-small, known-digit, digit-number, digit-letter}
-use Rattle.hex.proofs.Texts.{digit-in, digits-drop, word-lt, word-append}
 use Rattle.hex.proofs.Turning.{bytes-length, digits-length}
 
 -- the digit of a value has that value
@@ -32,7 +34,7 @@ value-back v h =
     (λ l e. ap digitValue e ∙ capital-value (0x41 + (v - 10)) (omega arith) (omega arith) ∙ omega arith)
 
 -- the digit of a digit's value is that digit in capitals
-pub digit-back : (c : ℕ) → isDigit c ≡ true → digitOf (digitValue c) ≡ capital c
+pub digit-back : (c : ℕ) → isDigit 16 c ≡ true → digitOf (digitValue c) ≡ capital c
 unfolding capital
 digit-back c d =
     by-digit c d
@@ -47,14 +49,14 @@ value-at w i = value-back (w / 2 ^ (4 * i) % 16) (mod-lt _ (lit< tt))
 
 -- a word's digits are digits
 pub are-digits : (w : ℕ) → allDigits (digitsOf w) ≡ true
-unfolding allDigits digitsOf
+unfolding areDigits digitsOf
 are-digits w =
-    let digit : (i : ℕ) → isDigit (digitAt w i) ≡ true = λ i. known-digit (digitAt w i) _ (value-at w i) (mod-lt _ (lit< tt)) in
+    let digit : (i : ℕ) → isDigit 16 (digitAt w i) ≡ true = λ i. known-digit (digitAt w i) _ (value-at w i) (mod-lt _ (lit< tt)) in
     rw (digit 7, digit 6, digit 5, digit 4, digit 3, digit 2, digit 1, digit 0)
 
 -- the word that a word's digits make is that word: what is left of it below each digit is the next digit and what is left below that
 pub word-back : (w : ℕ) → w < 2 ^ 32 → wordOf (digitsOf w) ≡ w
-unfolding wordOf digitsOf
+unfolding numberOf digitsOf
 word-back w h =
     let last : w % 16 ≡ w / 2 ^ (4 * 0) % 16 * 1 + 0 = omega arith in
     rw (value-at w 7, value-at w 6, value-at w 5, value-at w 4, value-at w 3, value-at w 2, value-at w 1, value-at w 0)
@@ -68,13 +70,15 @@ sixteens zero = refl
 sixteens (suc k) = rw (mul-suc, pow-add 2 (4 * k) 4, ← sixteens k) (pow-suc 16 k)
 
 -- a digit of the word that digits make, with so many digits after it
-digit-of : (front : List ℕ) (c : ℕ) (back : List ℕ) → isDigit c ≡ true → allDigits back ≡ true
+digit-of : (front : List ℕ) (c : ℕ) (back : List ℕ) → isDigit 16 c ≡ true → allDigits back ≡ true
     → digitOf (wordOf (front ++ (c ∷ []) ++ back) / 16 ^ length back % 16) ≡ capital c
-unfolding wordOf
+unfolding numberOf
 digit-of front c back d all =
-    let whole = word-append (front ++ (c ∷ [])) back in
-    let above : wordOf (front ++ (c ∷ []) ++ back) / 16 ^ length back ≡ wordOf (front ++ (c ∷ [])) = ap (λ (w : ℕ). w / 16 ^ length back) whole ∙ digits-div (wordOf (front ++ (c ∷ []))) (word-lt back all) in
-    let low : wordOf (front ++ (c ∷ [])) % 16 ≡ digitValue c = ap (λ (w : ℕ). w % 16) (word-append front (c ∷ [])) ∙ omega (arith, value-small c d) in
+    let whole = number-append 16 (front ++ (c ∷ [])) back in
+    let above : wordOf (front ++ (c ∷ []) ++ back) / 16 ^ length back ≡ wordOf (front ++ (c ∷ [])) =
+    ap (λ (w : ℕ). w / 16 ^ length back) whole ∙ digits-div (wordOf (front ++ (c ∷ []))) (number-lt 16 back all) in
+    let low : wordOf (front ++ (c ∷ [])) % 16 ≡ digitValue c =
+    ap (λ (w : ℕ). w % 16) (number-append 16 front (c ∷ [])) ∙ omega (arith, value-small c 16 d) in
     ap (λ (w : ℕ). digitOf (w % 16)) above ∙ ap digitOf low ∙ digit-back c d
 
 -- the number of a word's bytes is the word: from each byte on it is what lies above the bytes below
@@ -99,10 +103,10 @@ number-back w h =
     first = omega arith
 
 -- so many bytes make a number of so many times eight bits
-number-lt : (bytes : List ℕ) → number bytes < 2 ^ (8 * length bytes)
+bytes-lt : (bytes : List ℕ) → number bytes < 2 ^ (8 * length bytes)
 unfolding number
-number-lt [] = lit< tt
-number-lt (b ∷ bs) = rw mul-suc (join-lt 8 (8 * length bs) b (number-lt bs))
+bytes-lt [] = lit< tt
+bytes-lt (b ∷ bs) = rw mul-suc (join-lt 8 (8 * length bs) b (bytes-lt bs))
 
 -- a byte, and a digit, of a word by its place in the list
 byte-in : (w i : ℕ) → i < 4 → getD (bytesOf w) i 0 ≡ byte w i
@@ -128,7 +132,7 @@ digit-in-word w (suc (suc (suc (suc (suc (suc (suc (suc i)))))))) h = absurd (om
 -- four bytes are had back from their digits
 pub bytes-back : (bytes : List ℕ) → length bytes ≡ 4 → ((i : ℕ) → getD bytes i 0 < 256) → readWord (writtenWord bytes) ≡ bytes
 bytes-back bytes four small =
-    let word : number bytes < 2 ^ 32 = rw four at (number-lt bytes) in
+    let word : number bytes < 2 ^ 32 = rw four at (bytes-lt bytes) in
     ap bytesOf (word-back (number bytes) word)
     ∙ ext-getD 0 (bytesOf (number bytes)) bytes (bytes-length (number bytes) ∙ sym four)
     (λ i h. byte-in (number bytes) i (rw bytes-length at h) ∙ byte-number bytes small i)
@@ -145,13 +149,13 @@ digit-place digits i h all =
     let above : 2 ^ (4 * (length digits - suc i)) ≡ 16 ^ length back =
     sym (sixteens (length digits - suc i)) ∙ ap (λ (k : ℕ). 16 ^ k) (sym (length-drop (suc i) digits)) in
     ap₂ (λ (w k : ℕ). digitOf (w / k % 16)) (ap wordOf parts) above
-    ∙ digit-of front c back (digit-in digits i all h) (digits-drop (suc i) digits all)
+    ∙ digit-of front c back (digit-in 16 digits i all h) (digits-drop 16 (suc i) digits all)
 
 -- eight digits are had back from their bytes, in capitals
 pub digits-back : (digits : List ℕ) → length digits ≡ 8 → allDigits digits ≡ true → writtenWord (readWord digits) ≡ map capital digits
 unfolding capital pick within
 digits-back digits eight all =
-    let word : wordOf digits < 2 ^ 32 = rw eight at (word-lt digits all) in
+    let word : wordOf digits < 2 ^ 32 = rw eight at (number-lt 16 digits all) in
     ap digitsOf (number-back (wordOf digits) word)
     ∙ ext-getD 0 (digitsOf (wordOf digits)) (map capital digits) (digits-length (wordOf digits) ∙ sym (length-map digits capital ∙ eight))
     (λ i h.

@@ -15,16 +15,18 @@ use Rattle.hex.specs.rules.Text.{eachWord, readWord, writtenWord, imageO
 use Rattle.hex.proofs.Accepted.{write-accepted, read-accepted, text-fits, image-fits}
 use Rattle.hex.proofs.Back.{are-digits, bytes-back, digits-back}
 use Rattle.hex.proofs.Refusing.{left-done, read-done, write-done}
-use Rattle.hex.proofs.Texts.{digits-append, digits-part}
+use Rattle.digits.specs.rules.Numbers.{areDigits}
+use Rattle.digits.proofs.Numbers.{digits-append}
+use Rattle.hex.proofs.Texts.{digits-part}
 use Rattle.hex.proofs.Turning.{four-bytes, eight-digits, image-length, text-length}
 use Rattle.hex.proofs.WordByWord.{each-same, each-back}
 
 -- a written text is of digits
 written-digits : (n : ℕ) (image : List ℕ) → allDigits (eachWord 4 writtenWord n image) ≡ true
-unfolding eachWord allDigits
+unfolding eachWord areDigits
 written-digits zero image = refl
 written-digits (suc n) image =
-    digits-append (writtenWord (take 4 image)) (eachWord 4 writtenWord n (drop 4 image))
+    digits-append 16 (writtenWord (take 4 image)) (eachWord 4 writtenWord n (drop 4 image))
     (are-digits (number (take 4 image))) (written-digits n (drop 4 image))
 
 -- the beginning of a list of bytes is of bytes

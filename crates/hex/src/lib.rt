@@ -9,7 +9,8 @@ ghost use lib.Seq.{sets};
 ghost use Rattle.words.specs.rules.Bits.{within};
 ghost use Rattle.words.specs.rules.Bytes.{bytesAt};
 ghost use Rattle.words.specs.rules.Choice.{pick};
-ghost use Rattle.hex.specs.rules.Digits.{digitValue, isDigit, digitOf, digitAt, digitsOf, wordOf, bytesOf};
+ghost use Rattle.digits.specs.rules.Digits.{digitValue, isDigit};
+ghost use Rattle.hex.specs.rules.Digits.{digitAt, digitsOf, wordOf, bytesOf};
 ghost use Rattle.hex.specs.rules.Text.{imageOf, textOf, allDigits, readAnswer, writeAnswer, laid, readRoom, writeRoom};
 use opcodes::Refusal;
 
@@ -33,7 +34,7 @@ fn smaller(a: u8, b: u8) -> u8
 
 // 0 for a digit in either letter case, 1 for any other character.
 fn strange(character: u8) -> u8
-    ensures { λ r. ⌜ r ≡ pick (isDigit character) 0 1 ⌝ }
+    ensures { λ r. ⌜ r ≡ pick (isDigit 16 character) 0 1 ⌝ }
 {
     let letter = smaller(outside(character, b'A', 6), outside(character, b'a', 6));
     smaller(outside(character, b'0', 10), letter)
@@ -60,7 +61,7 @@ fn is_text(text: &[u8]) -> bool
 
 // The value of a digit: letters of either case have bit 6, and their low four bits count from 1.
 fn value(digit: u8) -> u32
-    requires { ⌜ isDigit digit ≡ true ⌝ }
+    requires { ⌜ isDigit 16 digit ≡ true ⌝ }
     ensures { λ r. ⌜ (r ≡ digitValue digit) × (r < 16) ⌝ }
 {
     (digit % 16 + 9 * (digit / 64)) as u32
@@ -130,20 +131,12 @@ pub fn read(text: &[u8], room: &mut [u8]) -> Refusal
     Refusal::None
 }
 
-// The digit of a value, in capitals: from 10 on the letters, seven places after where the numbers end.
-fn digit(value: u8) -> u8
-    requires { ⌜ value < 16 ⌝ }
-    ensures { λ r. ⌜ r ≡ digitOf value ⌝ }
-{
-    b'0' + value + 7 * ((value + 6) / 16)
-}
-
 // A digit of a word, the lowest at place 0.
 fn digit_at(word: u32, place: u32) -> u8
     requires { ⌜ place < 8 ⌝ }
     ensures { λ r. ⌜ r ≡ digitAt word place ⌝ }
 {
-    digit(((word >> (4 * place)) % 16) as u8)
+    digits::last_digit(word >> (4 * place))
 }
 
 // The eight digits of a word.

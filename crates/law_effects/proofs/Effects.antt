@@ -25,7 +25,9 @@ use Rattle.windows.specs.declared.Window.{Window}
 use Rattle.windows.proofs.Laws.{placed-inside}
 use Rattle.words.proofs.Choice.{both, of-choice}
 use Rattle.opcodes.specs.declared.Refusal.{Refusal}
-use Rattle.commands.specs.rules.Commands.{placed, rangeJudged, loadJudged, loaded, unitOf, unitsJudged, typeJudged, fillJudged, filled, typeFilled, fillMemory, startOf, stopOf, fieldShape, typeShape, shapeOf, tooWide, shapeJudged, settingJudged, shapeSet, settingMemory}
+use Rattle.commands.specs.rules.Commands.{placed, rangeJudged, loadJudged, unitOf, unitsJudged, typeJudged, fillJudged, typeFilled, fillMemory, startOf, stopOf}
+use Rattle.commands.specs.rules.Commands.{fieldShape, typeShape, shapeOf, tooWide, shapeJudged, settingJudged, shapeSet, settingMemory}
+use Rattle.stores.specs.rules.Stores.{loaded, filled}
 use Rattle.commands.specs.declared.Judged.{Judged}
 use Rattle.commands.specs.declared.Judged.the-variants.{Granted, Refused}
 use Rattle.commands.specs.declared.Shape.{Shape}
@@ -79,16 +81,6 @@ type-lies word Other = of-choice Lies _ (λ e. field-lies (startOf word) (stopOf
 every-shape-lies : (word : ℕ) → Lies (shapeOf word)
 unfolding shapeOf
 every-shape-lies word = of-choice Lies _ (λ e. tt) (λ e. type-lies word (unitOf (byte word 0)))
-
-pub shape-lies : (word : ℕ) {unit : UnitOf} {start width : ℕ} {field : Bool} → shapeOf word ≡ Bits unit start width field
-    → start + width ≤ 8 * sizeOf unit
-shape-lies word e = subst Lies e (every-shape-lies word)
-
-pub setting-does : (m : List ℕ) (place word value : ℕ) {unit : UnitOf} {start width : ℕ} {field : Bool}
-    → shapeOf word ≡ Bits unit start width field → place + sizeOf unit ≤ length m
-    → Does (settingEffect place (shapeOf word) value) m (shapeSet m place (shapeOf word) value)
-setting-does m place word value {unit} {start} {width} {field} e fit =
-    rw e (field-does m place unit start width field value (shape-lies word e) fit)
 
 -- a refused command leaves memory as it was
 module _ (m : List ℕ) {judged : Judged} {q : Refusal} (refused : judged ≡ Refused q) where

@@ -26,7 +26,8 @@ use Rattle.windows.specs.declared.Place.{Place}
 use Rattle.windows.specs.declared.Place.the-variants.{At, Nowhere}
 use Rattle.windows.specs.declared.Right.the-variants as right
 use Rattle.opcodes.specs.declared.Refusal.the-variants as refusal
-use Rattle.commands.specs.rules.Commands.{judgedCode, multiple, placed, rangeJudged, unitOf, unitsJudged, startOf, stopOf, fieldShape, typeShape, shapeOf, tooWide, shapeJudged, settingJudged, settingDone, settingMemory}
+use Rattle.commands.specs.rules.Commands.{judgedCode, multiple, placed, rangeJudged, unitOf, unitsJudged, startOf, stopOf, fieldShape, typeShape, shapeOf}
+use Rattle.commands.specs.rules.Commands.{tooWide, shapeJudged, settingJudged, settingDone, settingMemory}
 use Rattle.commands.specs.declared.Judged.{Judged}
 use Rattle.commands.specs.declared.Judged.the-variants.{Granted, Refused}
 use Rattle.commands.specs.declared.Shape.{Shape}

@@ -1,6 +1,6 @@
--- Both modes do the same with the same words. A flash session like a sent one has its windows, dialect, end, switch, checksum and settled totals; a call comes to the command by
--- the table, the words sent come to it by the table too, and there each command is judged and done by one definition.
-use Prim.Native.Nat.{ℕ, _+_, _*_, _/_, _≤_, _<_}
+-- Both modes do the same with the same words. A flash session like a sent one has its windows, dialect, end, switch, checksum and settled totals; a call comes
+-- to the command by the table, the words sent come to it by the table too, and there each command is judged and done by one definition.
+use Prim.Native.Nat.{ℕ, _+_, _*_, _≤_, _<_}
 use mathlib.Core.Bool.{Bool, true, false, false≢true}
 use mathlib.Core.List.{List, [], _∷_}
 use mathlib.Core.Path.{_≡_, refl, sym, ap, subst, subst₂, _∙_}
@@ -28,7 +28,8 @@ use Rattle.ledger.specs.declared.Happening.{Happening}
 use Rattle.ledger.specs.declared.Happening.the-variants as happened
 use Rattle.ledger.specs.declared.Totals.{Totals}
 use Rattle.ledger.proofs.Laws.{stays, settled-asks-nothing, settled-once, marked-settled, settled-asking, counted-keeps}
-use Rattle.commands.specs.rules.Commands.{loadJudged, loaded, loadFed, soughtFrom}
+use Rattle.commands.specs.rules.Commands.{loadJudged, soughtFrom}
+use Rattle.stores.specs.rules.Stores.{loaded, loadFed}
 use Rattle.commands.specs.rules.Wrote.{noneWrote}
 use Rattle.commands.specs.declared.Done.{Done}
 use Rattle.commands.specs.declared.Judged.{Judged}
@@ -39,10 +40,12 @@ use Rattle.commands.specs.declared.Wrote.{Wrote}
 use Rattle.commands.proofs.Judging.{unbarred, bars}
 use Rattle.flash.specs.rules.Sessions as flash
 use Rattle.flash.specs.rules.Step as step
-use Rattle.flash.specs.rules.Step.{argument, stepOf}
+use Rattle.flash.specs.rules.Step.{stepOf}
 use Rattle.flash.specs.declared.Called.{Called}
 use Rattle.flash.specs.declared.Session.{Session}
-use Rattle.flash.proofs.Cases.{load-spent, load-whole, load-read, row-whole, call-row}
+use Rattle.reading.specs.rules.Reading.{pastWords, argument, dataWords}
+use Rattle.reading.proofs.Reading.{there as are-present}
+use Rattle.flash.proofs.Cases.{load-spent, load-whole, call-whole}
 use Rattle.machine.specs.rules.Machine as machine
 use Rattle.machine.specs.rules.Machine.{noneKept, acknowledging, begun, wordStep}
 use Rattle.machine.specs.rules.Replies.{silence, farewell}
@@ -89,12 +92,13 @@ alike-like s k a =
     }
 
 -- an argument word, by its place
-argument-at : (s : Session) (image : List ℕ) (i at : ℕ) → at ≡ s .offset + 4 + 4 * i → wordAt image at ≡ argument s image i
+argument-at : (image : List ℕ) (offset i at : ℕ) → at ≡ offset + 4 + 4 * i → wordAt image at ≡ argument image offset i
 unfolding argument
-argument-at s image i at e = ap (wordAt image) e
+argument-at image offset i at e = ap (wordAt image) e
 
 -- what settled totals count and number stays settled
-counted-settled : (dialect : Dialect) (t : Totals) (size : ℕ) → numbered (counted dialect (settled t) size) ≡ settled (numbered (counted dialect (settled t) size))
+counted-settled : (dialect : Dialect) (t : Totals) (size : ℕ)
+    → numbered (counted dialect (settled t) size) ≡ settled (numbered (counted dialect (settled t) size))
 counted-settled dialect t size = sym (stays _ (counted-keeps dialect (settled t) size .1 ∙ settled-asks-nothing t))
 
 numbered-settled : (t : Totals) → numbered (settled t) ≡ settled (numbered (settled t))
@@ -129,9 +133,15 @@ module _ (k : Core) (totals : Totals) (same : totals ≡ settled (k .tally .tota
     where
       go : (t : Bool) → Same
           (flash._leaving_
-          (pick t (flash.accepted s h wrote (done .event) (flash.goTo s (done .checksum) (offset + 4 * n))) (flash.stopped (done .refusal) s)) memory)
+          (pick t (flash.acceptedAs s h wrote (done .event) (flash.goTo s (done .checksum) n)) (flash.stopped (done .refusal) s)) memory)
           (machine._leaving_
-          (pick t (record { refusal = None; reply = silence; event = done .event; core = machine.await k (machine.tallied (done .checksum) left) Opcode; wrote = noneWrote })
+          (pick t (record {
+            refusal = None;
+            reply = silence;
+            event = done .event;
+            core = machine.await k (machine.tallied (done .checksum) left) Opcode;
+            wrote = noneWrote;
+          })
           (machine.refused k (done .refusal))) memory)
       go true =
           record {
@@ -151,7 +161,8 @@ module _ (k : Core) (totals : Totals) (same : totals ≡ settled (k .tally .tota
   -- a refused close, whichever way its end is told
   refused-same : (q : Refusal) (memory : List ℕ) (t : Bool) → Same (flash._leaving_ (step.entered (flash.stopped q s)) memory)
       (machine._leaving_
-      (pick t (record { refusal = q; reply = farewell (k .dialect); event = Nothing; core = machine.stop (machine.stop k); wrote = noneWrote }) (machine.refused k q)) memory)
+      (pick t (record { refusal = q; reply = farewell (k .dialect); event = Nothing; core = machine.stop (machine.stop k); wrote = noneWrote })
+      (machine.refused k q)) memory)
   refused-same q memory t =
       of-choice (λ (x : Taken). Same (flash._leaving_ (step.entered (flash.stopped q s)) memory) (machine._leaving_ x memory)) t
       (λ e. record {
@@ -176,11 +187,17 @@ module _ (k : Core) (totals : Totals) (same : totals ≡ settled (k .tally .tota
       go : (t : Bool) → Same
           (flash._leaving_
           (step.entered
-          (pick t (flash.accepted s h wrote (done .event) (flash.goTo s (done .checksum) (offset + 4 * n))) (flash.stopped (done .refusal) s)))
+          (pick t (flash.acceptedAs s h wrote (done .event) (flash.goTo s (done .checksum) n)) (flash.stopped (done .refusal) s)))
           memory)
           (machine._leaving_
           (machine.entered
-          (pick t (record { refusal = None; reply = silence; event = done .event; core = machine.await k (machine.tallied (done .checksum) left) Opcode; wrote = noneWrote })
+          (pick t (record {
+            refusal = None;
+            reply = silence;
+            event = done .event;
+            core = machine.await k (machine.tallied (done .checksum) left) Opcode;
+            wrote = noneWrote;
+          })
           (machine.refused k (done .refusal))))
           memory)
       go true =
@@ -205,70 +222,73 @@ module _ (k : Core) (offset size limit retries fetched : ℕ) (m image : List �
   once = sym (settled-once (k .tally .totals))
 
   -- each command with its words, however these were read
-  fill-same : (a b c d : ℕ) → a ≡ argument session image 0 → b ≡ argument session image 1 → c ≡ argument session image 2 → d ≡ argument session image 3
-      → Same (step.performed command.Fill session m image) (doneWith opcode command.Fill (begun command.Fill k) m (a ∷ b ∷ c ∷ d ∷ []))
+  fill-same : (next a b c d : ℕ) → a ≡ argument image offset 0 → b ≡ argument image offset 1 → c ≡ argument image offset 2 → d ≡ argument image offset 3
+      → Same (step.performed command.Fill next session m image) (doneWith opcode command.Fill (begun command.Fill k) m (a ∷ b ∷ c ∷ d ∷ []))
   unfolding doneAtLast
-  fill-same a b c d p q r t =
+  fill-same next a b c d p q r t =
       rw (p, q, r, t)
       (written-same _
-      (done-same (asking (begun command.Fill k) command.Fill 1 _) (settled (k .tally .totals)) once (happened.Section (argument session image 1))
-      (counted-settled (k .dialect) (k .tally .totals) _) offset size limit retries fetched _ _ 5 _))
+      (done-same (asking (begun command.Fill k) command.Fill 1 _) (settled (k .tally .totals)) once (happened.Section (argument image offset 1))
+      (counted-settled (k .dialect) (k .tally .totals) _) offset size limit retries fetched _ _ next _))
 
-  setting-same : (a b c d : ℕ) → a ≡ argument session image 0 → b ≡ argument session image 1 → c ≡ argument session image 2 → d ≡ argument session image 3
-      → Same (step.performed command.BootTable session m image) (doneWith opcode command.BootTable (begun command.BootTable k) m (a ∷ b ∷ c ∷ d ∷ []))
+  setting-same : (next a b c d : ℕ) → a ≡ argument image offset 0 → b ≡ argument image offset 1 → c ≡ argument image offset 2 → d ≡ argument image offset 3
+      → Same (step.performed command.BootTable next session m image) (doneWith opcode command.BootTable (begun command.BootTable k) m (a ∷ b ∷ c ∷ d ∷ []))
   unfolding doneAtLast
-  setting-same a b c d p q r t =
+  setting-same next a b c d p q r t =
       rw (p, q, r, t)
       (written-same _
-      (done-same (asking (begun command.BootTable k) command.BootTable 1 _) (settled (k .tally .totals)) once happened.Setting (numbered-settled (k .tally .totals))
-      offset size limit retries fetched _ _ 5 _))
+      (done-same (asking (begun command.BootTable k) command.BootTable 1 _) (settled (k .tally .totals)) once happened.Setting
+      (numbered-settled (k .tally .totals))
+      offset size limit retries fetched _ _ next _))
 
   -- where the words stand in the image
-  places : (i at : ℕ) → at ≡ offset + 4 + 4 * i → wordAt image at ≡ argument session image i
-  places i at e = argument-at session image i at e
+  places : (i at : ℕ) → at ≡ offset + 4 + 4 * i → wordAt image at ≡ argument image offset i
+  places i at e = argument-at image offset i at e
 
   -- Jump & Close in a dialect, with one word or with three
   abbrev in-dialect : Dialect → Session
   in-dialect d = like (within d k) (settled (k .tally .totals)) offset size limit retries fetched
 
-  close-am : (a : ℕ) → a ≡ argument (in-dialect Am17xx) image 0
-      → Same (step.performed command.JumpAndClose (in-dialect Am17xx) m image)
+  close-am : (next a : ℕ) → a ≡ argument image offset 0
+      → Same (step.performed command.JumpAndClose next (in-dialect Am17xx) m image)
       (doneWith opcode command.JumpAndClose (begun command.JumpAndClose (within Am17xx k)) m (a ∷ []))
   unfolding doneAtLast
-  close-am a p =
+  close-am next a p =
       rw p
-      (close-done-same (asking (begun command.JumpAndClose (within Am17xx k)) command.JumpAndClose 1 noneKept) (settled (k .tally .totals)) once happened.Other once offset size limit
-      retries fetched _ _ 2 m)
+      (close-done-same (asking (begun command.JumpAndClose (within Am17xx k)) command.JumpAndClose 1 noneKept) (settled (k .tally .totals)) once
+      happened.Other once offset size limit
+      retries fetched _ _ next m)
 
-  close-dm : (a b c : ℕ) → a ≡ argument (in-dialect Dm648) image 0 → b ≡ argument (in-dialect Dm648) image 1 → c ≡ argument (in-dialect Dm648) image 2
-      → Same (step.performed command.JumpAndClose (in-dialect Dm648) m image)
+  close-dm : (next a b c : ℕ) → a ≡ argument image offset 0 → b ≡ argument image offset 1 → c ≡ argument image offset 2
+      → Same (step.performed command.JumpAndClose next (in-dialect Dm648) m image)
       (doneWith opcode command.JumpAndClose (begun command.JumpAndClose (within Dm648 k)) m (a ∷ b ∷ c ∷ []))
   unfolding doneAtLast
-  close-dm a b c p q r =
+  close-dm next a b c p q r =
       rw (p, q, r)
-      (close-done-same (asking (begun command.JumpAndClose (within Dm648 k)) command.JumpAndClose 1 _) (settled (k .tally .totals)) once happened.Other once offset size limit
-      retries fetched _ _ 4 m)
+      (close-done-same (asking (begun command.JumpAndClose (within Dm648 k)) command.JumpAndClose 1 _) (settled (k .tally .totals)) once happened.Other once
+      offset size limit
+      retries fetched _ _ next m)
 
   close-same : (d : Dialect) (words : ℕ) → rowIs Flash d command.JumpAndClose words ≡ true
-      → Same (step.performed command.JumpAndClose (in-dialect d) m image)
+      → Same (step.performed command.JumpAndClose (pastWords offset words) (in-dialect d) m image)
       (doneWith opcode command.JumpAndClose (begun command.JumpAndClose (within d k)) m (wordsAt image (offset + 4) words))
   unfolding wordsAt rowIs
-  close-same Am17xx words f = rw (eqb-true words 1 f) (close-am _ (argument-at (in-dialect Am17xx) image 0 _ (omega arith)))
+  close-same Am17xx words f = rw (eqb-true words 1 f) (close-am _ _ (argument-at image offset 0 _ (omega arith)))
   close-same Dm648 words f =
       rw (eqb-true words 3 f)
-      (close-dm _ _ _ (argument-at (in-dialect Dm648) image 0 _ (omega arith)) (argument-at (in-dialect Dm648) image 1 _ (omega arith))
-      (argument-at (in-dialect Dm648) image 2 _ (omega arith)))
+      (close-dm _ _ _ _ (argument-at image offset 0 _ (omega arith)) (argument-at image offset 1 _ (omega arith))
+      (argument-at image offset 2 _ (omega arith)))
 
   by-command : (c : Command) (words : ℕ) → (c ≡ command.Load → ⊥) → rowIs Flash (k .dialect) c words ≡ true → rowIs Sent (k .dialect) c words ≡ true
-      → Same (step.performed c session m image) (doneWith opcode c (begun c k) m (wordsAt image (offset + 4) words))
+      → Same (step.performed c (pastWords offset words) session m image) (doneWith opcode c (begun c k) m (wordsAt image (offset + 4) words))
   unfolding wordsAt rowIs acknowledging pick
   by-command command.Load words other f s = absurd (other refl)
   by-command command.Fill words other f s =
       rw (eqb-true words 4 f)
-      (fill-same _ _ _ _ (places 0 _ (omega arith)) (places 1 _ (omega arith)) (places 2 _ (omega arith)) (places 3 _ (omega arith)))
+      (fill-same _ _ _ _ _ (places 0 _ (omega arith)) (places 1 _ (omega arith)) (places 2 _ (omega arith)) (places 3 _ (omega arith)))
   by-command command.BootTable words other f s =
       rw (eqb-true words 4 f)
-      (setting-same _ _ _ _ (places 0 _ (omega arith)) (places 1 _ (omega arith)) (places 2 _ (omega arith)) (places 3 _ (omega arith)))
+      (setting-same _ _ _ _ _ (places 0 _ (omega arith)) (places 1 _ (omega arith)) (places 2 _ (omega arith)) (places 3 _ (omega arith)))
   by-command command.Enable words other f s =
       rw (eqb-true words 0 f)
       (record {
@@ -291,18 +311,24 @@ module _ (k : Core) (offset size limit retries fetched : ℕ) (m image : List �
   by-command command.Ping words other f s = absurd (false≢true f)
   by-command command.SequentialRead words other f s = absurd (false≢true s)
 
-  -- Load, refused and granted
-  load-refused-same : (a b : ℕ) → a ≡ argument session image 0 → b ≡ argument session image 1 → (q : Refusal)
-      → step.overflowing session (argument session image 1) (loadJudged (k .windows) (argument session image 0) (argument session image 1)) ≡ Refused q
-      → Same (step.performed command.Load session m image) (doneWith opcode command.Load (begun command.Load k) m (a ∷ b ∷ []))
+  -- Load, however its words were read
+  load-read : {address size : ℕ} {judged : Judged} → address ≡ argument image offset 0 → size ≡ argument image offset 1
+      → judged ≡ step.overflowing session size (loadJudged (k .windows) address size)
+      → step.loadJudgedAs session m image (pastWords offset 2) address size judged ≡ step.performed command.Load (pastWords offset 2) session m image
+  load-read p q j = rw (j, p, q)
+
+  -- refused and granted
+  load-refused-same : (a b : ℕ) → a ≡ argument image offset 0 → b ≡ argument image offset 1 → (q : Refusal)
+      → step.overflowing session (argument image offset 1) (loadJudged (k .windows) (argument image offset 0) (argument image offset 1)) ≡ Refused q
+      → Same (step.performed command.Load (pastWords offset 2) session m image) (doneWith opcode command.Load (begun command.Load k) m (a ∷ b ∷ []))
   unfolding doneAtLast
   load-refused-same a b p r q judged =
       rw (p, r)
       (subst
-      (λ (j : Judged). Same (step.loadJudgedAs session m image (argument session image 0) (argument session image 1) j)
+      (λ (j : Judged). Same (step.loadJudgedAs session m image (pastWords offset 2) (argument image offset 0) (argument image offset 1) j)
       (machine._leaving_
-      (machine.loadBegun (asking (begun command.Load k) command.Load 1 (machine.keeping noneKept (argument session image 0))) (argument session image 0)
-      (argument session image 1) (machine.numbering (begun command.Load k) j)) m))
+      (machine.loadBegun (asking (begun command.Load k) command.Load 1 (machine.keeping noneKept (argument image offset 0))) (argument image offset 0)
+      (argument image offset 1) (machine.outOfNumbers (begun command.Load k) j)) m))
       (sym judged)
       (record {
         refusal = refl;
@@ -312,15 +338,16 @@ module _ (k : Core) (offset size limit retries fetched : ℕ) (m image : List �
       }))
 
   -- no number for it
-  load-spent-same : (a b : ℕ) → a ≡ argument session image 0 → b ≡ argument session image 1 → (place : ℕ)
+  load-spent-same : (a b : ℕ) → a ≡ argument image offset 0 → b ≡ argument image offset 1 → (place : ℕ)
       → step.overflowing session b (loadJudged (k .windows) a b) ≡ Granted place → isSpent (settled (k .tally .totals)) ≡ true
-      → offset + 12 + 4 * ((b + 3) / 4) ≤ length image
-      → Same (step.performed command.Load session m image) (doneWith opcode command.Load (begun command.Load k) m (a ∷ b ∷ []))
+      → pastWords offset 2 + 4 * dataWords b ≤ length image
+      → Same (step.performed command.Load (pastWords offset 2) session m image) (doneWith opcode command.Load (begun command.Load k) m (a ∷ b ∷ []))
   unfolding doneAtLast
   load-spent-same a b p r place judged spent there =
       let reached : Core = asking (begun command.Load k) command.Load 1 (machine.keeping noneKept a) in
-      let in-flash = sym (load-read session m image p r (sym judged)) ∙ load-spent session m image a b place there spent in
-      let sent : machine.counting reached b (loadJudged (k .windows) a b) ≡ Refused Number = ap (machine.numbering reached) judged ∙ bars _ _ place spent in
+      let in-flash = sym (load-read p r (sym judged)) ∙ load-spent session m image (pastWords offset 2) a b place (are-present image _ _ there) spent in
+      let sent : machine.outOfNumbers reached (machine.overflowing reached b (loadJudged (k .windows) a b)) ≡ Refused Number =
+      ap (machine.outOfNumbers reached) judged ∙ bars _ _ place spent in
       subst₂ Same (sym in-flash) (sym (ap (λ (j : Judged). machine._leaving_ (machine.loadBegun reached a b j) m) sent))
       (record {
         refusal = refl;
@@ -329,17 +356,18 @@ module _ (k : Core) (offset size limit retries fetched : ℕ) (m image : List �
         alike = record { windows = refl; dialect = refl; ended = refl; on = refl; checksum = refl; totals = once };
       })
 
-  load-granted-same : (a b : ℕ) → a ≡ argument session image 0 → b ≡ argument session image 1 → (place : ℕ)
+  load-granted-same : (a b : ℕ) → a ≡ argument image offset 0 → b ≡ argument image offset 1 → (place : ℕ)
       → step.overflowing session b (loadJudged (k .windows) a b) ≡ Granted place → isSpent (settled (k .tally .totals)) ≡ false
-      → ((i : ℕ) → getD image i 0 < 256) → offset + 12 + 4 * ((b + 3) / 4) ≤ length image
-      → Same (step.performed command.Load session m image)
-      (afterWords (doneWith opcode command.Load (begun command.Load k) m (a ∷ b ∷ [])) (wordsAt image (offset + 12) ((b + 3) / 4)))
+      → ((i : ℕ) → getD image i 0 < 256) → pastWords offset 2 + 4 * dataWords b ≤ length image
+      → Same (step.performed command.Load (pastWords offset 2) session m image)
+      (afterWords (doneWith opcode command.Load (begun command.Load k) m (a ∷ b ∷ [])) (wordsAt image (pastWords offset 2) (dataWords b)))
   unfolding doneAtLast
   load-granted-same a b p r place judged unspent small there =
       let reached : Core = asking (begun command.Load k) command.Load 1 (machine.keeping noneKept a) in
-      let words : List ℕ = wordsAt image (offset + 12) ((b + 3) / 4) in
-      let in-flash = sym (load-read session m image p r (sym judged)) ∙ load-whole session m image a b place there unspent in
-      let sent = load-in-pieces reached m (machine.keeping noneKept a) b place words (unbarred _ _ _ unspent ∙ judged) (words-length image ((b + 3) / 4) (offset + 12)) in
+      let words : List ℕ = wordsAt image (pastWords offset 2) (dataWords b) in
+      let in-flash = sym (load-read p r (sym judged)) ∙ load-whole session m image (pastWords offset 2) a b place (are-present image _ _ there) unspent in
+      let sent = load-in-pieces reached m (machine.keeping noneKept a) b place words (unbarred _ _ _ unspent ∙ judged)
+      (words-length image (dataWords b) (pastWords offset 2)) in
       unwritten-same _
       (subst₂ Same (sym in-flash)
       (sym
@@ -349,7 +377,7 @@ module _ (k : Core) (offset size limit retries fetched : ℕ) (m image : List �
       (machine.quiet
       (machine.await reached (machine.tallied (pick (k .on) (loadFed (k .tally .checksum) a bytes) (k .tally .checksum)) (machine.countedOn reached b)) Opcode))
       (loaded m place bytes))
-      (data-bytes image small b (offset + 12) there)))
+      (data-bytes image small b (pastWords offset 2) there)))
       (record {
         refusal = refl;
         event = refl;
@@ -359,10 +387,9 @@ module _ (k : Core) (offset size limit retries fetched : ℕ) (m image : List �
 
 -- a call comes to the command of its row, its words fetched
 called : (s : Session) (m image : List ℕ) (k : Core) → Before s m image k → (c : Command) (words : ℕ)
-    → lookedUp (wordAt image (s .offset)) Flash (s .dialect) ≡ Known c words → s .offset + 4 + 4 * words ≤ length image
-    → stepOf s m image ≡ step.performed c (flash.fetching (1 + words) s) m image
-called s m image k b c words known there =
-    call-row s m image (b .running) (b .lent) (b .sound) (b .present) ∙ row-whole s m image known there
+    → lookedUp (wordAt image (s .offset)) Flash (s .dialect) ≡ Known c words → pastWords (s .offset) words ≤ length image
+    → stepOf s m image ≡ step.performed c (pastWords (s .offset) words) (flash.fetching (1 + words) s) m image
+called s m image k b c words known there = call-whole s m image (b .running) (b .lent) (b .sound) c words known there
 
 -- a Request in flash mode leaves event, switch and checksum alike in each of its cases
 record Quiet (s : Session) (a : Called) : Type 0 where
@@ -374,9 +401,9 @@ sought-quiet : (s : Session) (led : Sought) → Quiet s (step.soughtAs s led)
 sought-quiet s (sought.To offset) = record { event = refl; on = refl; checksum = refl }
 sought-quiet s (sought.Refused q) = record { event = refl; on = refl; checksum = refl }
 
-requested-quiet : (s : Session) (expected seek : ℕ) → Quiet s (step.requested s expected seek)
+requested-quiet : (s : Session) (next expected seek : ℕ) → Quiet s (step.requested s next expected seek)
 unfolding step.requested
-requested-quiet s expected seek =
+requested-quiet s next expected seek =
     of-choice (Quiet s) _ (λ e. record { event = refl; on = refl; checksum = refl })
     (λ e. of-choice (Quiet s) _ (λ e. record { event = refl; on = refl; checksum = refl }) (λ e. sought-quiet s (soughtFrom (s .offset) seek)))
 
@@ -394,44 +421,49 @@ module _ (m image : List ℕ) (k : Core) (offset size limit retries fetched : �
       → sentWith here m image k (wordsAt image (offset + 4) words) ≡ doneWith word c (begun c k) m (wordsAt image (offset + 4) words)
   sent-done c words known = by-the-table .done k m word c words (wordsAt image (offset + 4) words) (b .awaits) known (words-length image words (offset + 4))
 
-  command-like : (c : Command) (words : ℕ) → (c ≡ command.Load → ⊥) → RowsOf (k .dialect) word c words words → offset + 4 + 4 * words ≤ length image
+  command-like : (c : Command) (words : ℕ) → (c ≡ command.Load → ⊥) → RowsOf (k .dialect) word c words words → pastWords offset words ≤ length image
       → Same (stepOf here m image) (sentWith here m image k (wordsAt image (offset + 4) words))
   command-like c words other rows there =
       subst₂ Same (sym (called here m image k b c words (rows .in-flash) there)) (sym (sent-done c words (rows .in-sent)))
-      (by-command k offset size limit retries (flash.countedOn fetched (1 + words)) m image word c words other (row-is Flash (k .dialect) word c words (rows .in-flash))
+      (by-command k offset size limit retries (flash.countedOn fetched (1 + words)) m image word c words other
+      (row-is Flash (k .dialect) word c words (rows .in-flash))
       (row-is Sent (k .dialect) word c words (rows .in-sent)))
 
-  load-like : RowsOf (k .dialect) word command.Load 2 2 → offset + 12 ≤ length image → SameLoad here m image k
+  load-like : RowsOf (k .dialect) word command.Load 2 2 → pastWords offset 2 ≤ length image → SameLoad here m image k
   unfolding wordsAt argument
   load-like rows there =
-      let first = argument-at here image 0 (offset + 4) (omega arith) in
-      let second = argument-at here image 1 (offset + 4 + 4) (omega arith) in
-      let in-flash = sym (called here m image k b command.Load 2 (rows .in-flash) (omega arith)) in
+      let first = argument-at image offset 0 (offset + 4) (omega arith) in
+      let second = argument-at image offset 1 (offset + 4 + 4) (omega arith) in
+      let in-flash = sym (called here m image k b command.Load 2 (rows .in-flash) there) in
       let in-sent = sent-done command.Load 2 (rows .in-sent) in
       record {
         refused = λ q judged.
-            subst₂ Same in-flash (sym in-sent) (load-refused-same k offset size limit retries (flash.countedOn fetched 3) m image word _ _ first second q judged);
+            subst₂ Same in-flash (sym in-sent) (load-refused-same k offset size limit retries (flash.countedOn fetched 3) m image word _ _ first second q
+            judged);
         spent = λ place judged none all.
             subst₂ Same in-flash (sym in-sent)
-            (load-spent-same k offset size limit retries (flash.countedOn fetched 3) m image word _ _ first second place (rw (first, second) judged) none (rw second all));
+            (load-spent-same k offset size limit retries (flash.countedOn fetched 3) m image word _ _ first second place (rw (first, second) judged) none
+            (rw second all));
         granted = λ place judged unspent all.
             subst₂ Same in-flash
             (sym
             (after-append (wordStep k m word) (wordsAt image (offset + 4) 2) _
-            ∙ ap (λ (o : machine.WordOutcome). afterWords o (wordsAt image (offset + 12) ((argument here image 1 + 3) / 4))) in-sent))
+            ∙ ap (λ (o : machine.WordOutcome). afterWords o (wordsAt image (pastWords offset 2) (dataWords (argument image offset 1)))) in-sent))
             (subst
-            (λ (n : ℕ). Same (step.performed command.Load (flash.fetching 3 here) m image)
-            (afterWords (doneWith word command.Load (begun command.Load k) m (wordsAt image (offset + 4) 2)) (wordsAt image (offset + 12) ((n + 3) / 4))))
+            (λ (n : ℕ). Same (step.performed command.Load (pastWords offset 2) (flash.fetching 3 here) m image)
+            (afterWords (doneWith word command.Load (begun command.Load k) m (wordsAt image (offset + 4) 2))
+            (wordsAt image (pastWords offset 2) (dataWords n))))
             second
-            (load-granted-same k offset size limit retries (flash.countedOn fetched 3) m image word _ _ first second place (rw (first, second) judged) unspent (b .bytes)
+            (load-granted-same k offset size limit retries (flash.countedOn fetched 3) m image word _ _ first second place (rw (first, second) judged) unspent
+            (b .bytes)
             (rw second all)));
       }
 
-  request-like : RowsOf (k .dialect) word command.Request 2 0 → offset + 12 ≤ length image → RequestByMode here m image k
+  request-like : RowsOf (k .dialect) word command.Request 2 0 → pastWords offset 2 ≤ length image → RequestByMode here m image k
   unfolding wordsAt afterWords acknowledging pick argument step.requested
   request-like rows there =
-      let in-flash = called here m image k b command.Request 2 (rows .in-flash) (omega arith) in
-      let quiet = requested-quiet (flash.fetching 3 here) (argument here image 0) (argument here image 1) in
+      let in-flash = called here m image k b command.Request 2 (rows .in-flash) there in
+      let quiet = requested-quiet (flash.fetching 3 here) (pastWords offset 2) (argument image offset 0) (argument image offset 1) in
       let answer = ap (λ (o : flash.CallOutcome). o .answer) in-flash in
       record {
         sent = sent-done command.Request 0 (rows .in-sent);
@@ -463,16 +495,18 @@ both-modes =
     record {
       commands = λ s m image k b.
           subst
-          (λ (x : Session). Before x m image k → (c : Command) (words : ℕ) → (c ≡ command.Load → ⊥) → RowsOf (k .dialect) (wordAt image (x .offset)) c words words
-          → x .offset + 4 + 4 * words ≤ length image → Same (stepOf x m image) (sentWith x m image k (wordsAt image (x .offset + 4) words)))
+          (λ (x : Session). Before x m image k → (c : Command) (words : ℕ) → (c ≡ command.Load → ⊥)
+          → RowsOf (k .dialect) (wordAt image (x .offset)) c words words
+          → pastWords (x .offset) words ≤ length image → Same (stepOf x m image) (sentWith x m image k (wordsAt image (x .offset + 4) words)))
           (sym (alike-like s k (b .alike))) (command-like m image k (s .offset) (s .length) (s .limit) (s .retries) (s .fetched)) b;
       load = λ s m image k b.
           subst
-          (λ (x : Session). Before x m image k → RowsOf (k .dialect) (wordAt image (x .offset)) command.Load 2 2 → x .offset + 12 ≤ length image → SameLoad x m image k)
+          (λ (x : Session). Before x m image k → RowsOf (k .dialect) (wordAt image (x .offset)) command.Load 2 2 → pastWords (x .offset) 2 ≤ length image
+          → SameLoad x m image k)
           (sym (alike-like s k (b .alike))) (load-like m image k (s .offset) (s .length) (s .limit) (s .retries) (s .fetched)) b;
       request = λ s m image k b.
           subst
-          (λ (x : Session). Before x m image k → RowsOf (k .dialect) (wordAt image (x .offset)) command.Request 2 0 → x .offset + 12 ≤ length image
+          (λ (x : Session). Before x m image k → RowsOf (k .dialect) (wordAt image (x .offset)) command.Request 2 0 → pastWords (x .offset) 2 ≤ length image
           → RequestByMode x m image k)
           (sym (alike-like s k (b .alike))) (request-like m image k (s .offset) (s .length) (s .limit) (s .retries) (s .fetched)) b;
     }

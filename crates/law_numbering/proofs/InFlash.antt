@@ -1,6 +1,6 @@
--- A call beside the same call without the numbers: each part of the rules gives the same, or 25 where the other accepts a command that takes a number. So a session that has none, which
--- is its own session without them, goes on to have none.
-use Prim.Native.Nat.{ℕ, _+_, _*_, _/_}
+-- A call beside the same call without the numbers: each part of the rules gives the same, or 25 where the other accepts a command that takes a number. So a
+-- session that has none, which is its own session without them, goes on to have none.
+use Prim.Native.Nat.{ℕ, _+_}
 use mathlib.Core.Bool.{Bool, true, false, not, false≢true, true≢false}
 use mathlib.Core.List.{List, [], _∷_}
 use mathlib.Core.Logic.{_≢_}
@@ -24,13 +24,17 @@ use Rattle.opcodes.specs.declared.Found.the-variants.{Known, Retired, Unknown}
 use Rattle.opcodes.specs.declared.Mode.the-variants.{Flash}
 use Rattle.opcodes.specs.declared.Refusal.the-variants as refusal
 use Rattle.ledger.specs.claims.Agreement.{KeepsNone}
-use Rattle.ledger.specs.rules.Totals.{differs, isSpent, inFlash}
+use Rattle.ledger.specs.rules.Totals.{standing, differs, isSpent, inFlash}
 use Rattle.ledger.specs.declared.Happening.{Happening}
 use Rattle.ledger.specs.declared.Happening.the-variants as happened
 use Rattle.ledger.specs.declared.Standing.{Standing}
 use Rattle.ledger.specs.declared.Totals.{Totals}
 use Rattle.ledger.proofs.Agreement.{never-numbers}
-use Rattle.commands.specs.rules.Commands.{barred, doneIf, loadJudged, fillJudged, fillDone, fillMemory, settingJudged, settingDone, settingMemory, entryJudged, closeDone, soughtFrom}
+use Rattle.reading.specs.rules.Reading.{present, wordsFrom, pastWords, argument, dataWords, readAs, readAt}
+use Rattle.reading.specs.declared.Read.{Read}
+use Rattle.reading.specs.declared.Read.the-variants as read
+use Rattle.commands.specs.rules.Commands.{barred, doneIf, loadJudged, fillJudged, fillDone, fillMemory, settingJudged, settingDone, settingMemory, entryJudged}
+use Rattle.commands.specs.rules.Commands.{closeDone, soughtFrom}
 use Rattle.commands.specs.rules.Wrote.{noneWrote, bytesWrote, settingWrote}
 use Rattle.commands.specs.declared.Done.{Done}
 use Rattle.commands.specs.declared.Judged.{Judged}
@@ -41,21 +45,24 @@ use Rattle.commands.specs.declared.Wrote.{Wrote}
 use Rattle.commands.proofs.Judging.{Passes, barred-passes, load-passes, fill-passes, setting-passes, entry-passes}
 use Rattle.flash.specs.rules.Opening.{openedBy}
 use Rattle.flash.specs.claims.Reached.{Reached, opened, called}
-use Rattle.flash.specs.rules.Sessions.{CallOutcome, _leaving_, goTo, withTotals, fetching, stopped, accepted}
-use Rattle.flash.specs.rules.Step.{present, argument, after, overflowing, outOfNumbers, loadDone, loadAt, loadJudgedAs, fillJudgedAs, settingJudgedAs, soughtAs, requested, named, closeWords, entered, closed, performed, atRow, stepOf}
+use Rattle.flash.specs.rules.Sessions.{CallOutcome, _leaving_, goTo, withTotals, fetching, stopped, acceptedAs}
+use Rattle.flash.specs.rules.Step.{after, overflowing, outOfNumbers, loadDone, loadAt, loadJudgedAs, loadOf, fillJudgedAs, fillOf, settingOf}
+use Rattle.flash.specs.rules.Step.{soughtAs, requested, entered, closed, performed, followed, stepOf}
 use Rattle.flash.specs.declared.Called.{Called}
 use Rattle.flash.specs.declared.Opened.{Opened}
 use Rattle.flash.specs.declared.Session.{Session}
 use Rattle.law_numbering.specs.claims.InFlash.{plain, plainly, plainOutcome, takesFound, OutOfNumbers, InFlash}
 use Rattle.law_numbering.specs.claims.LeftOut.{unnumbered, byAny, takes}
-use Rattle.law_numbering.proofs.Common.{none-left, passes-alike, differs-alike, counted-alike, numbered-alike, bytes-alike, setting-alike, Other, other, each-other, none-not}
+use Rattle.law_numbering.proofs.Common.{none-left, passes-alike, differs-alike, counted-alike, numbered-alike, bytes-alike, setting-alike, Other, other}
+use Rattle.law_numbering.proofs.Common.{each-other, none-not}
 
 -- an answer without the numbers, and what is given beside it
 record Same (a b : Called) : Type 0 where
   told : plainly a ≡ b
 
 data Beside (spent takes-one : Bool) (o p : CallOutcome) : Type 0 where
-  same : codeOf (o .answer .refusal) ≢ 25 → plainOutcome o ≡ p → (spent ≡ true → takes-one ≡ true → codeOf (o .answer .refusal) ≢ 0) → Beside spent takes-one o p
+  same : codeOf (o .answer .refusal) ≢ 25 → plainOutcome o ≡ p → (spent ≡ true → takes-one ≡ true → codeOf (o .answer .refusal) ≢ 0)
+      → Beside spent takes-one o p
   lacks : o .answer .refusal ≡ refusal.Number → spent ≡ true → takes-one ≡ true → p .answer .refusal ≡ refusal.None → Beside spent takes-one o p
 
 choice : {spent takes-one : Bool} (t : Bool) {o p q r : CallOutcome} → Beside spent takes-one o p → Beside spent takes-one q r
@@ -101,7 +108,7 @@ module _ (s : Session) where
   after-plain h wrote done n =
       answer-choice (eqb (codeOf (done .refusal)) 0)
       (record {
-        told = ap (retold (accepted (plain s) h (byAny wrote) (done .event) (goTo (plain s) (done .checksum) (s .offset + 4 * n)))) (happens-alike (s .dialect) (s .totals) h);
+        told = ap (retold (acceptedAs (plain s) h (byAny wrote) (done .event) (goTo (plain s) (done .checksum) n))) (happens-alike (s .dialect) (s .totals) h);
       })
       (record { told = refl })
 
@@ -119,15 +126,15 @@ done-not (Refused q) checksum fed told p = p .not-25
 
 -- a fill and a setting, by what they do where they are granted
 module _ (s : Session) (h : Happening) (wrote : Judged → ℕ → Wrote) (alike : (judged : Judged) (number : ℕ) → byAny (wrote judged number) ≡ wrote judged 0)
-    (memory : Judged → List ℕ) (told : Event) (fed : ℕ) where
+    (memory : Judged → List ℕ) (told : Event) (fed next : ℕ) where
   abbrev written : Session → Judged → CallOutcome
-  written x judged = after x h (wrote judged (x .totals .next)) (doneIf judged (s .checksum) told fed) 5 leaving memory judged
+  written x judged = after x h (wrote judged (x .totals .next)) (doneIf judged (s .checksum) told fed) next leaving memory judged
 
   written-plain : (judged : Judged) → plainOutcome (written s judged) ≡ written (plain s) judged
   written-plain judged =
       ap (λ (a : Called). a leaving memory judged)
-      (after-plain s h (wrote judged (s .totals .next)) (doneIf judged (s .checksum) told fed) 5 .told
-      ∙ ap (λ (w : Wrote). after (plain s) h w (doneIf judged (s .checksum) told fed) 5) (alike judged (s .totals .next)))
+      (after-plain s h (wrote judged (s .totals .next)) (doneIf judged (s .checksum) told fed) next .told
+      ∙ ap (λ (w : Wrote). after (plain s) h w (doneIf judged (s .checksum) told fed) next) (alike judged (s .totals .next)))
 
   written-granted : (place : ℕ) (t : Bool) → Beside t true (written s (pick t (Refused refusal.Number) (Granted place))) (written (plain s) (Granted place))
   unfolding after pick
@@ -138,59 +145,60 @@ module _ (s : Session) (h : Happening) (wrote : Judged → ℕ → Wrote) (alike
       → Beside (isSpent (s .totals)) true (written s (outOfNumbers s judged)) (written (plain s) (outOfNumbers (plain s) judged))
   unfolding pick
   written-beside (Granted place) p = written-granted place (isSpent (s .totals))
-  written-beside (Refused q) p = refused (after-refused s h _ (record { refusal = q; event = event.Nothing; checksum = s .checksum }) 5 p) (written-plain (Refused q))
+  written-beside (Refused q) p = refused (after-refused s h _ (record { refusal = q; event = event.Nothing; checksum = s .checksum }) next p)
+      (written-plain (Refused q))
 
 module _ (m image : List ℕ) where
   module _ (s : Session) where
-    load-plain : (address size place : ℕ) → plainOutcome (loadDone s m image address size place) ≡ loadDone (plain s) m image address size place
-    load-plain address size place =
-        let whole : CallOutcome = loadDone (plain s) m image address size place in
+    load-plain : (next address size place : ℕ) → plainOutcome (loadDone s m image next address size place) ≡ loadDone (plain s) m image next address size place
+    load-plain next address size place =
+        let whole : CallOutcome = loadDone (plain s) m image next address size place in
         ap (λ (t : Totals). retold (whole .answer) t leaving whole .memory) (counted-alike (s .dialect) (s .totals) size)
 
-    load-beside : (address size : ℕ) (judged : Judged) → Passes Other judged
-        → Beside (isSpent (s .totals)) true (loadJudgedAs s m image address size judged) (loadJudgedAs (plain s) m image address size judged)
+    load-beside : (next address size : ℕ) (judged : Judged) → Passes Other judged
+        → Beside (isSpent (s .totals)) true (loadJudgedAs s m image next address size judged) (loadJudgedAs (plain s) m image next address size judged)
     unfolding loadAt pick
-    load-beside address size (Granted place) p =
-        choice (not (present image (s .offset + 12) ((size + 3) / 4))) (refused (other refusal.Missing refl refl) refl)
-        (numbering (isSpent (s .totals)) (stopped refusal.Number s leaving m) (loadDone (plain s) m image address size place) (loadDone s m image address size place) refl
-        (load-plain address size place) refl)
-    load-beside address size (Refused q) p = refused p refl
+    load-beside next address size (Granted place) p =
+        choice (not (present image next (dataWords size))) (refused (other refusal.Missing refl refl) refl)
+        (numbering (isSpent (s .totals)) (stopped refusal.Number s leaving m) (loadDone (plain s) m image next address size place)
+        (loadDone s m image next address size place) refl
+        (load-plain next address size place) refl)
+    load-beside next address size (Refused q) p = refused p refl
 
     -- 18 is given alike
     section-passes : (size : ℕ) (judged : Judged) → Passes Other judged → Passes Other (overflowing s size judged)
     section-passes size judged p = barred-passes Other _ refusal.Overflow judged (other refusal.Overflow refl refl) p
 
-    load-judged : (address size : ℕ) → Beside (isSpent (s .totals)) true
-        (loadJudgedAs s m image address size (overflowing s size (loadJudged (s .windows) address size)))
-        (loadJudgedAs (plain s) m image address size (overflowing (plain s) size (loadJudged (s .windows) address size)))
-    load-judged address size =
+    load-judged : (next address size : ℕ) → Beside (isSpent (s .totals)) true
+        (loadOf s m image next address size) (loadOf (plain s) m image next address size)
+    load-judged next address size =
         let judged : Judged = loadJudged (s .windows) address size in
         subst
-        (λ (t : Bool). Beside (isSpent (s .totals)) true (loadJudgedAs s m image address size (overflowing s size judged))
-        (loadJudgedAs (plain s) m image address size (barred t refusal.Overflow judged)))
+        (λ (t : Bool). Beside (isSpent (s .totals)) true (loadJudgedAs s m image next address size (overflowing s size judged))
+        (loadJudgedAs (plain s) m image next address size (barred t refusal.Overflow judged)))
         (passes-alike (s .dialect) (s .totals) size)
-        (load-beside address size (overflowing s size judged) (section-passes size judged (load-passes Other each-other (s .windows) address size)))
+        (load-beside next address size (overflowing s size judged) (section-passes size judged (load-passes Other each-other (s .windows) address size)))
 
-    fill-judged : (address size kind pattern : ℕ) → Beside (isSpent (s .totals)) true
-        (fillJudgedAs s m address size kind pattern (outOfNumbers s (overflowing s size (fillJudged (s .windows) address size kind))))
-        (fillJudgedAs (plain s) m address size kind pattern (outOfNumbers (plain s) (overflowing (plain s) size (fillJudged (s .windows) address size kind))))
+    fill-judged : (next address size kind pattern : ℕ) → Beside (isSpent (s .totals)) true
+        (fillOf s m next address size kind pattern) (fillOf (plain s) m next address size kind pattern)
     unfolding fillDone
-    fill-judged address size kind pattern =
+    fill-judged next address size kind pattern =
         let judged : Judged = fillJudged (s .windows) address size kind in
         subst
-        (λ (t : Bool). Beside (isSpent (s .totals)) true (fillJudgedAs s m address size kind pattern (outOfNumbers s (overflowing s size judged)))
-        (fillJudgedAs (plain s) m address size kind pattern (outOfNumbers (plain s) (barred t refusal.Overflow judged))))
+        (λ (t : Bool). Beside (isSpent (s .totals)) true (fillJudgedAs s m next address size kind pattern (outOfNumbers s (overflowing s size judged)))
+        (fillJudgedAs (plain s) m next address size kind pattern (outOfNumbers (plain s) (barred t refusal.Overflow judged))))
         (passes-alike (s .dialect) (s .totals) size)
-        (written-beside s (happened.Section size) (λ j n. bytesWrote j size n) (λ j n. bytes-alike j size n) (λ j. fillMemory j m size kind pattern) event.Nothing
-        (pick (s .on) (fedWords (s .checksum) (address ∷ size ∷ kind ∷ pattern ∷ [])) (s .checksum)) (overflowing s size judged)
+        (written-beside s (happened.Section size) (λ j n. bytesWrote j size n) (λ j n. bytes-alike j size n) (λ j. fillMemory j m size kind pattern)
+        event.Nothing
+        (pick (s .on) (fedWords (s .checksum) (address ∷ size ∷ kind ∷ pattern ∷ [])) (s .checksum)) next (overflowing s size judged)
         (section-passes size judged (fill-passes Other each-other (s .windows) address size kind)))
 
-    setting-judged : (word address value delay : ℕ) → Beside (isSpent (s .totals)) true
-        (settingJudgedAs s m word value delay (outOfNumbers s (settingJudged (s .windows) word address value)))
-        (settingJudgedAs (plain s) m word value delay (outOfNumbers (plain s) (settingJudged (s .windows) word address value)))
+    setting-judged : (next word address value delay : ℕ) → Beside (isSpent (s .totals)) true
+        (settingOf s m next word address value delay) (settingOf (plain s) m next word address value delay)
     unfolding settingDone
-    setting-judged word address value delay =
-        written-beside s happened.Setting (λ j n. settingWrote j word n) (λ j n. setting-alike j word n) (λ j. settingMemory j m word value) (event.Wait delay) (s .checksum)
+    setting-judged next word address value delay =
+        written-beside s happened.Setting (λ j n. settingWrote j word n) (λ j n. setting-alike j word n) (λ j. settingMemory j m word value)
+        (event.Wait delay) (s .checksum) next
         (settingJudged (s .windows) word address value) (setting-passes Other each-other (s .windows) word address value)
 
     -- a Request, and a close
@@ -198,9 +206,9 @@ module _ (m image : List ℕ) where
     sought-same (sought.To offset) = record { told = refl }
     sought-same (sought.Refused q) = record { told = refl }
 
-    request-same : (expected seek : ℕ) → Same (requested s expected seek) (requested (plain s) expected seek)
+    request-same : (next expected seek : ℕ) → Same (requested s next expected seek) (requested (plain s) next expected seek)
     unfolding requested
-    request-same expected seek =
+    request-same next expected seek =
         answer-choice (eqb expected (s .checksum)) (record { told = refl })
         (answer-choice (leb (s .limit) (s .retries)) (record { told = refl }) (sought-same (soughtFrom (s .offset) seek)))
 
@@ -209,55 +217,71 @@ module _ (m image : List ℕ) where
     sought-not request seek =
         of-choice (λ (led : Sought). codeOf (soughtAs s led .refusal) ≢ 25) _ (λ e. none-not) (λ e. other refusal.Seek refl refl .not-25)
 
-    request-not : (expected seek : ℕ) → codeOf (requested s expected seek .refusal) ≢ 25
+    request-not : (next expected seek : ℕ) → codeOf (requested s next expected seek .refusal) ≢ 25
     unfolding requested
-    request-not expected seek =
+    request-not next expected seek =
         let Not : Called → Type 0 = λ a. codeOf (a .refusal) ≢ 25 in
         of-choice Not _ (λ e. none-not) (λ e. of-choice Not _ (λ e. other refusal.Checksum refl refl .not-25) (λ e. sought-not (s .offset) seek))
 
-    close-beside : (address : ℕ) (totals : Standing) → Beside (isSpent (s .totals)) false (closed s address totals leaving m) (closed (plain s) address totals leaving m)
+    close-beside : (next address sections bytes : ℕ)
+        → Beside (isSpent (s .totals)) false (closed s next address sections bytes leaving m) (closed (plain s) next address sections bytes leaving m)
     unfolding closeDone
-    close-beside address totals =
+    close-beside next address sections bytes =
+        let totals : Standing = standing sections bytes in
         let at : Bool → Judged = λ t. barred t refusal.Totals (entryJudged (s .windows) address) in
         let doneBy : Bool → Done = λ t. doneIf (at t) (s .checksum) (event.Enter address) (s .checksum) in
         let differ : Bool = differs (s .dialect) (s .totals) totals in
         free
-        (after-not s happened.Other noneWrote (doneBy differ) (closeWords (s .dialect))
+        (after-not s happened.Other noneWrote (doneBy differ) next
         (done-not (at differ) (s .checksum) (s .checksum) (event.Enter address)
-        (barred-passes Other differ refusal.Totals (entryJudged (s .windows) address) (other refusal.Totals refl refl) (entry-passes Other each-other (s .windows) address))))
+        (barred-passes Other differ refusal.Totals (entryJudged (s .windows) address) (other refusal.Totals refl refl)
+        (entry-passes Other each-other (s .windows) address))))
         (ap (λ (a : Called). entered a leaving m)
-        (after-plain s happened.Other noneWrote (doneBy differ) (closeWords (s .dialect)) .told
-        ∙ ap (λ (t : Bool). after (plain s) happened.Other noneWrote (doneBy t) (closeWords (s .dialect))) (differs-alike (s .dialect) (s .totals) totals)))
+        (after-plain s happened.Other noneWrote (doneBy differ) next .told
+        ∙ ap (λ (t : Bool). after (plain s) happened.Other noneWrote (doneBy t) next) (differs-alike (s .dialect) (s .totals) totals)))
 
-    performed-beside : (c : Command) → Beside (isSpent (s .totals)) (takes c) (performed c s m image) (performed c (plain s) m image)
-    unfolding argument
-    performed-beside command.Load = load-judged (argument s image 0) (argument s image 1)
-    performed-beside command.Fill = fill-judged (argument s image 0) (argument s image 1) (argument s image 2) (argument s image 3)
-    performed-beside command.BootTable = setting-judged (argument s image 0) (argument s image 1) (argument s image 2) (argument s image 3)
-    performed-beside command.Enable = free none-not refl
-    performed-beside command.Disable = free none-not refl
-    performed-beside command.Request =
-        free (request-not (argument s image 0) (argument s image 1))
-        (ap (λ (a : Called). a leaving m) (request-same (argument s image 0) (argument s image 1) .told))
-    performed-beside command.StartOver = free (other refusal.Opcode refl refl .not-25) refl
-    performed-beside command.JumpAndClose = close-beside (argument s image 0) (named s image)
-    performed-beside command.Ping = free (other refusal.Opcode refl refl .not-25) refl
-    performed-beside command.SequentialRead = free none-not refl
+    performed-beside : (c : Command) (next : ℕ) → Beside (isSpent (s .totals)) (takes c) (performed c next s m image) (performed c next (plain s) m image)
+    performed-beside command.Load next = load-judged next (argument image (s .offset) 0) (argument image (s .offset) 1)
+    performed-beside command.Fill next = fill-judged next (argument image (s .offset) 0) (argument image (s .offset) 1) (argument image (s .offset) 2)
+        (argument image (s .offset) 3)
+    performed-beside command.BootTable next = setting-judged next (argument image (s .offset) 0) (argument image (s .offset) 1) (argument image (s .offset) 2)
+        (argument image (s .offset) 3)
+    performed-beside command.Enable next = free none-not refl
+    performed-beside command.Disable next = free none-not refl
+    performed-beside command.Request next =
+        free (request-not next (argument image (s .offset) 0) (argument image (s .offset) 1))
+        (ap (λ (a : Called). a leaving m) (request-same next (argument image (s .offset) 0) (argument image (s .offset) 1) .told))
+    performed-beside command.StartOver next = free (other refusal.Opcode refl refl .not-25) refl
+    performed-beside command.JumpAndClose next = close-beside next (argument image (s .offset) 0) (argument image (s .offset) 1) (argument image (s .offset) 2)
+    performed-beside command.Ping next = free (other refusal.Opcode refl refl .not-25) refl
+    performed-beside command.SequentialRead next = free none-not refl
 
-  row-beside : (s : Session) (found : Found) → Beside (isSpent (s .totals)) (takesFound found) (atRow s m image found) (atRow (plain s) m image found)
+  -- what is read where words are missing, and the command
+  read-choice : {takes-one : Bool} (s : Session) (t : Bool) (n : ℕ) (r : Read)
+      → Beside (isSpent (s .totals)) takes-one (followed s m image r) (followed (plain s) m image r)
+      → Beside (isSpent (s .totals)) takes-one (followed s m image (pick t (read.Refused refusal.Missing n) r))
+      (followed (plain s) m image (pick t (read.Refused refusal.Missing n) r))
+  unfolding pick
+  read-choice s true n r beside = refused (other refusal.Missing refl refl) refl
+  read-choice s false n r beside = beside
+
+  row-beside : (s : Session) (found : Found)
+      → Beside (isSpent (s .totals)) (takesFound found) (followed s m image (readAs image (s .offset) found))
+      (followed (plain s) m image (readAs image (s .offset) found))
   row-beside s Unknown = refused (other refusal.Opcode refl refl) refl
   row-beside s Retired = refused (other refusal.Retired refl refl) refl
   row-beside s (Known c words) =
-      choice (not (present image (s .offset + 4) words)) (refused (other refusal.Missing refl refl) refl) (performed-beside (fetching (1 + words) s) c)
+      read-choice s (not (present image (s .offset) (1 + words))) (wordsFrom image (s .offset)) (read.Whole c words)
+      (performed-beside (fetching (1 + words) s) c (pastWords (s .offset) words))
 
   step-beside : (s : Session)
       → Beside (isSpent (s .totals)) (takesFound (lookedUp (wordAt image (s .offset)) Flash (s .dialect))) (stepOf s m image) (stepOf (plain s) m image)
-  unfolding stepOf
+  unfolding stepOf readAt
   step-beside s =
       choice _ (refused (other refusal.Ended refl refl) refl)
       (choice _ (refused (other refusal.Memory refl refl) refl)
       (choice _ (refused (other refusal.Image refl refl) refl)
-      (choice _ (refused (other refusal.Missing refl refl) refl) (row-beside s (lookedUp (wordAt image (s .offset)) Flash (s .dialect))))))
+      (read-choice s _ 0 _ (row-beside s (lookedUp (wordAt image (s .offset)) Flash (s .dialect))))))
 
 -- the laws
 module _ (s : Session) (m image : List ℕ) where
@@ -298,7 +322,8 @@ module _ (s : Session) (m image : List ℕ) where
         sym (ap (λ (o : CallOutcome). o .answer .session .totals .back) whole),
       )
 
-opened-none : (dialect : Dialect) (count : ℕ) (windows : List Window) (image : List ℕ) (limit : ℕ) → KeepsNone (openedBy dialect count windows image limit .session .totals)
+opened-none : (dialect : Dialect) (count : ℕ) (windows : List Window) (image : List ℕ) (limit : ℕ)
+    → KeepsNone (openedBy dialect count windows image limit .session .totals)
 unfolding openedBy
 opened-none dialect count windows image limit =
     let None : Opened → Type 0 = λ o. KeepsNone (o .session .totals) in

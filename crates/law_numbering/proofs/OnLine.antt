@@ -1,5 +1,5 @@
--- A word beside the same word without the numbers: each part of the rules gives the same, or 25 where the other accepts a command that takes a number; then a unit, and units by
--- induction. So a session that has none, which is its own session without them, goes on to have none.
+-- A word beside the same word without the numbers: each part of the rules gives the same, or 25 where the other accepts a command that takes a number; then a
+-- unit, and units by induction. So a session that has none, which is its own session without them, goes on to have none.
 use Prim.Native.Nat.{ℕ, _+_, _-_}
 use mathlib.Core.Bool.{Bool, true, false, not, _&&_, _||_, and-false, false≢true, true≢false}
 use mathlib.Core.List.{List, [], _∷_}
@@ -30,7 +30,8 @@ use Rattle.ledger.specs.claims.Agreement.{KeepsNone}
 use Rattle.ledger.specs.rules.Totals.{standing, wouldPass, differs, isSpent, numbered, turned}
 use Rattle.ledger.specs.declared.Totals.{Totals}
 use Rattle.ledger.proofs.Agreement.{never-numbers}
-use Rattle.commands.specs.rules.Commands.{barred, doneIf, loadJudged, fillJudged, fillDone, fillMemory, settingJudged, settingDone, settingMemory, entryJudged, closeDone}
+use Rattle.commands.specs.rules.Commands.{barred, doneIf, loadJudged, fillJudged, fillDone, fillMemory, settingJudged, settingDone, settingMemory, entryJudged}
+use Rattle.commands.specs.rules.Commands.{closeDone}
 use Rattle.commands.specs.rules.Wrote.{noneWrote, bytesWrote, settingWrote}
 use Rattle.commands.specs.declared.Done.{Done}
 use Rattle.commands.specs.declared.Judged.{Judged}
@@ -41,7 +42,8 @@ use Rattle.sent.specs.rules.Bus.{unitsInWord, startUnit, pushed}
 use Rattle.sent.specs.rules.Feeding.{State, totals, next, fed, answers}
 use Rattle.sent.specs.rules.Line as line
 use Rattle.sent.specs.rules.Line.{carried, isStart, unitStep}
-use Rattle.machine.specs.rules.Machine.{WordOutcome, tallied, changed, await, countedOn, quiet, writing, _leaving_, after, entered, noneKept, keeping, awaited, numbering, loadBegun, closeAddress, performed, toward, begun, acknowledging, opening, atOpcode, inPhase, wordStep}
+use Rattle.machine.specs.rules.Machine.{WordOutcome, tallied, changed, await, countedOn, quiet, writing, _leaving_, after, entered, noneKept, keeping, awaited}
+use Rattle.machine.specs.rules.Machine.{outOfNumbers, loadBegun, closeAddress, performed, toward, begun, acknowledging, opening, atOpcode, inPhase, wordStep}
 use Rattle.sent.specs.rules.Opening.{openedBy}
 use Rattle.machine.specs.rules.Replies.{silence}
 use Rattle.sent.specs.declared.Bus.{Bus}
@@ -53,15 +55,18 @@ use Rattle.machine.specs.declared.Phase.the-variants as phase
 use Rattle.sent.specs.declared.Session.{Session}
 use Rattle.machine.specs.declared.Taken.{Taken}
 use Rattle.law_numbering.specs.claims.LeftOut.{unnumbered, byAny, takes}
-use Rattle.law_numbering.specs.claims.OnLine.{plain, plainly, plainOutcome, plainSession, plainUnit, plainState, takesAt, takesIn, OutOfNumbers, NoneSpent, ButNumbers, opened, OnLine}
-use Rattle.law_numbering.proofs.Common.{none-left, passes-alike, differs-alike, counted-alike, numbered-alike, turned-alike, bytes-alike, setting-alike, Other, other, each-other, none-not}
+use Rattle.law_numbering.specs.claims.OnLine.{plain, plainly, plainOutcome, plainSession, plainUnit, plainState, takesAt, takesIn, OutOfNumbers}
+use Rattle.law_numbering.specs.claims.OnLine.{NoneSpent, ButNumbers, opened, OnLine}
+use Rattle.law_numbering.proofs.Common.{none-left, passes-alike, differs-alike, counted-alike, numbered-alike, turned-alike, bytes-alike, setting-alike}
+use Rattle.law_numbering.proofs.Common.{Other, other, each-other, none-not}
 
 -- an answer without the numbers, and what is given beside it
 record Same (a b : Taken) : Type 0 where
   told : plainly a ≡ b
 
 data Beside (spent takes-one : Bool) (o p : WordOutcome) : Type 0 where
-  same : codeOf (o .answer .refusal) ≢ 25 → plainOutcome o ≡ p → (spent ≡ true → takes-one ≡ true → codeOf (o .answer .refusal) ≢ 0) → Beside spent takes-one o p
+  same : codeOf (o .answer .refusal) ≢ 25 → plainOutcome o ≡ p → (spent ≡ true → takes-one ≡ true → codeOf (o .answer .refusal) ≢ 0)
+      → Beside spent takes-one o p
   lacks : o .answer .refusal ≡ refusal.Number → spent ≡ true → takes-one ≡ true → p .answer .refusal ≡ refusal.None → Beside spent takes-one o p
 
 answer-choice : (t : Bool) {a b c d : Taken} → Same a b → Same c d → Same (pick t a c) (pick t b d)
@@ -82,7 +87,8 @@ settle none (same n e f) = free n e
 settle none (lacks number spent takes-one accepted) = absurd (false≢true (sym none ∙ takes-one))
 
 -- a command at its last word, or a word before it
-toward-choice : {spent takes-one : Bool} (t : Bool) {o p r : WordOutcome} (q : WordOutcome) → Beside spent takes-one o p → codeOf (q .answer .refusal) ≢ 25 → plainOutcome q ≡ r
+toward-choice : {spent takes-one : Bool} (t : Bool) {o p r : WordOutcome} (q : WordOutcome) → Beside spent takes-one o p → codeOf (q .answer .refusal) ≢ 25
+    → plainOutcome q ≡ r
     → Beside spent (t && takes-one) (pick t o q) (pick t p r)
 unfolding pick
 toward-choice true q last n e = last
@@ -110,7 +116,8 @@ ack-refusal : (opcode : ℕ) (t : Taken) → acknowledging opcode t .refusal ≡
 unfolding acknowledging
 ack-refusal opcode t = of-choice (λ (x : Taken). x .refusal ≡ t .refusal) _ {b = t} (λ h. refl) (λ h. refl)
 
-opening-beside : {spent takes-one : Bool} (opcode : ℕ) {o p : WordOutcome} → Beside spent takes-one o p → Beside spent takes-one (opening opcode o) (opening opcode p)
+opening-beside : {spent takes-one : Bool} (opcode : ℕ) {o p : WordOutcome} → Beside spent takes-one o p
+    → Beside spent takes-one (opening opcode o) (opening opcode p)
 opening-beside opcode {o} {p} (same n e f) =
     let as-before = sym (ap codeOf (ack-refusal opcode (o .answer))) in
     same (λ q. n (as-before ∙ q)) (opening-plain opcode o ∙ ap (opening opcode) e) (λ s t q. f s t (as-before ∙ q))
@@ -123,7 +130,14 @@ module _ (k : Core) where
   after-plain t u e done =
       answer-choice (eqb (codeOf (done .refusal)) 0)
       (record {
-        told = ap (λ (v : Totals). record { refusal = refusal.None; reply = silence; event = done .event; core = await k (tallied (done .checksum) v) phase.Opcode; wrote = noneWrote }) e;
+        told = ap (λ (v : Totals). record {
+          refusal = refusal.None;
+          reply = silence;
+          event = done .event;
+          core = await k (tallied (done .checksum) v)
+              phase.Opcode;
+          wrote = noneWrote;
+        }) e;
       })
       (record { told = refl })
 
@@ -150,32 +164,37 @@ module _ (k : Core) (t u : Totals) (left : unnumbered t ≡ u) (wrote : Judged �
       ap₂ (λ (w : Wrote) (a : Taken). writing w a leaving memory judged) (alike judged (k .tally .totals .next))
       (after-plain k t u left (doneIf judged (k .tally .checksum) told fed) .told)
 
-  written-granted : (place : ℕ) (spent : Bool) → Beside spent true (written k t (pick spent (Refused refusal.Number) (Granted place))) (written (plain k) u (Granted place))
+  written-granted : (place : ℕ) (spent : Bool) → Beside spent true (written k t (pick spent (Refused refusal.Number) (Granted place)))
+      (written (plain k) u (Granted place))
   unfolding after pick
   written-granted place true = lacks refl refl refl refl
   written-granted place false = same none-not (written-plain (Granted place)) (λ s t. absurd (false≢true s))
 
   written-beside : (judged : Judged) → Passes Other judged
-      → Beside (isSpent (k .tally .totals)) true (written k t (numbering k judged)) (written (plain k) u (numbering (plain k) judged))
+      → Beside (isSpent (k .tally .totals)) true (written k t (outOfNumbers k judged)) (written (plain k) u (outOfNumbers (plain k) judged))
   unfolding pick
   written-beside (Granted place) p = written-granted place (isSpent (k .tally .totals))
-  written-beside (Refused q) p = refused (after-refused k t (record { refusal = q; event = event.Nothing; checksum = k .tally .checksum }) p) (written-plain (Refused q))
+  written-beside (Refused q) p = refused (after-refused k t (record { refusal = q; event = event.Nothing; checksum = k .tally .checksum }) p)
+      (written-plain (Refused q))
 
 module _ (k : Core) (m : List ℕ) where
-  load-plain : (address size : ℕ) (judged : Judged) → plainOutcome (loadBegun k address size judged leaving m) ≡ loadBegun (plain k) address size judged leaving m
+  load-plain : (address size : ℕ) (judged : Judged) → plainOutcome (loadBegun k address size judged leaving m) ≡ loadBegun (plain k) address size judged
+      leaving m
   load-plain address size (Granted place) =
       let fed : ℕ = pick (k .on) (fedWords (k .tally .checksum) (address ∷ size ∷ [])) (k .tally .checksum) in
       ap (λ (t : Totals). quiet (await k (tallied fed t) (awaited (place + size) size)) leaving m) (counted-alike (k .dialect) (k .tally .totals) size)
   load-plain address size (Refused q) = refl
 
   load-granted : (address size place : ℕ) (spent : Bool)
-      → Beside spent true (loadBegun k address size (pick spent (Refused refusal.Number) (Granted place)) leaving m) (loadBegun (plain k) address size (Granted place) leaving m)
+      → Beside spent true (loadBegun k address size (pick spent (Refused refusal.Number) (Granted place)) leaving m)
+      (loadBegun (plain k) address size (Granted place) leaving m)
   unfolding pick
   load-granted address size place true = lacks refl refl refl refl
   load-granted address size place false = same none-not (load-plain address size (Granted place)) (λ s t. absurd (false≢true s))
 
   load-beside : (address size : ℕ) (judged : Judged) → Passes Other judged
-      → Beside (isSpent (k .tally .totals)) true (loadBegun k address size (numbering k judged) leaving m) (loadBegun (plain k) address size (numbering (plain k) judged) leaving m)
+      → Beside (isSpent (k .tally .totals)) true (loadBegun k address size (outOfNumbers k judged) leaving m)
+      (loadBegun (plain k) address size (outOfNumbers (plain k) judged) leaving m)
   unfolding pick
   load-beside address size (Granted place) p = load-granted address size place (isSpent (k .tally .totals))
   load-beside address size (Refused q) p = refused p refl
@@ -193,7 +212,7 @@ module _ (k : Core) (m : List ℕ) where
         let judged : Judged = loadJudged (k .windows) (kept .third) word in
         subst
         (λ (t : Bool). Beside (isSpent (k .tally .totals)) true (performed command.Load k m kept word)
-        (loadBegun (plain k) (kept .third) word (numbering (plain k) (barred t refusal.Overflow judged)) leaving m))
+        (loadBegun (plain k) (kept .third) word (outOfNumbers (plain k) (barred t refusal.Overflow judged)) leaving m))
         (passes-alike (k .dialect) (k .tally .totals) word)
         (load-beside (kept .third) word (barred (past word) refusal.Overflow judged)
         (section-passes word judged (load-passes Other each-other (k .windows) (kept .third) word)))
@@ -207,8 +226,9 @@ module _ (k : Core) (m : List ℕ) where
         let lent : Judged → List ℕ = λ j. fillMemory j m size (kept .third) word in
         subst
         (λ (t : Bool). Beside (isSpent (k .tally .totals)) true (performed command.Fill k m kept word)
-        (written k (countedOn k size) (countedOn (plain k) size) (counted-alike (k .dialect) (k .tally .totals) size) (λ j n. bytesWrote j size n) (λ j n. bytes-alike j size n)
-        lent event.Nothing fed (plain k) (countedOn (plain k) size) (numbering (plain k) (barred t refusal.Overflow judged))))
+        (written k (countedOn k size) (countedOn (plain k) size) (counted-alike (k .dialect) (k .tally .totals) size) (λ j n. bytesWrote j size n)
+        (λ j n. bytes-alike j size n)
+        lent event.Nothing fed (plain k) (countedOn (plain k) size) (outOfNumbers (plain k) (barred t refusal.Overflow judged))))
         (passes-alike (k .dialect) (k .tally .totals) size)
         (written-beside k (countedOn k size) (countedOn (plain k) size) (counted-alike (k .dialect) (k .tally .totals) size) (λ j n. bytesWrote j size n)
         (λ j n. bytes-alike j size n) lent event.Nothing fed (barred (past size) refusal.Overflow judged)
@@ -217,7 +237,8 @@ module _ (k : Core) (m : List ℕ) where
     setting-last : Beside (isSpent (k .tally .totals)) true (performed command.BootTable k m kept word) (performed command.BootTable (plain k) m kept word)
     unfolding settingDone
     setting-last =
-        written-beside k (numbered (k .tally .totals)) (numbered (unnumbered (k .tally .totals))) (numbered-alike (k .tally .totals)) (λ j n. settingWrote j (kept .first) n)
+        written-beside k (numbered (k .tally .totals)) (numbered (unnumbered (k .tally .totals))) (numbered-alike (k .tally .totals))
+        (λ j n. settingWrote j (kept .first) n)
         (λ j n. setting-alike j (kept .first) n) (λ j. settingMemory j m (kept .first) (kept .third)) (event.Wait word) (k .tally .checksum)
         (settingJudged (k .windows) (kept .first) (kept .second) (kept .third))
         (setting-passes Other each-other (k .windows) (kept .first) (kept .second) (kept .third))
@@ -253,8 +274,10 @@ module _ (k : Core) (m : List ℕ) where
     performed-beside command.Ping = free none-not refl
     performed-beside command.SequentialRead = free (other refusal.Opcode refl refl .not-25) refl
 
-    toward-beside : (c : Command) (left : ℕ) → Beside (isSpent (k .tally .totals)) (takesAt c left) (toward c left k m kept word) (toward c left (plain k) m kept word)
-    toward-beside c left = toward-choice (eqb left 0) (quiet (await k (k .tally) (phase.Argument c left (keeping kept word))) leaving m) (performed-beside c) none-not refl
+    toward-beside : (c : Command) (left : ℕ) → Beside (isSpent (k .tally .totals)) (takesAt c left) (toward c left k m kept word)
+        (toward c left (plain k) m kept word)
+    toward-beside c left = toward-choice (eqb left 0) (quiet (await k (k .tally) (phase.Argument c left (keeping kept word))) leaving m) (performed-beside c)
+        none-not refl
 
 -- the table has no command that takes a number and no words
 no-taking : (d : Dialect) (c : Command) (words : ℕ) → rowIs Sent d c words ≡ true → takesAt c words ≡ false
@@ -271,7 +294,8 @@ no-taking d command.Ping words row = rw and-false
 no-taking d command.SequentialRead words row = rw and-false
 
 module _ (k : Core) (m : List ℕ) (word : ℕ) where
-  opcode-beside : (f : Found) → lookedUp word Sent (k .dialect) ≡ f → Beside (isSpent (k .tally .totals)) false (atOpcode k m word f) (atOpcode (plain k) m word f)
+  opcode-beside : (f : Found) → lookedUp word Sent (k .dialect) ≡ f
+      → Beside (isSpent (k .tally .totals)) false (atOpcode k m word f) (atOpcode (plain k) m word f)
   opcode-beside Unknown known = free (other refusal.Opcode refl refl .not-25) refl
   opcode-beside Retired known = free (other refusal.Retired refl refl .not-25) refl
   opcode-beside (Known c words) known =
@@ -279,7 +303,8 @@ module _ (k : Core) (m : List ℕ) (word : ℕ) where
       settle (no-taking (k .dialect) c words (row-is Sent (k .dialect) word c words known))
       (opening-beside word
       (subst
-      (λ (t : Totals). Beside (isSpent (turned c (k .tally .totals))) (takesAt c words) (toward c words (begun c k) m noneKept 0) (toward c words (core t) m noneKept 0))
+      (λ (t : Totals). Beside (isSpent (turned c (k .tally .totals))) (takesAt c words) (toward c words (begun c k) m noneKept 0)
+      (toward c words (core t) m noneKept 0))
       (turned-alike c (k .tally .totals)) (toward-beside (begun c k) m noneKept 0 c words)))
 
   phase-beside : (p : Phase) → Beside (isSpent (k .tally .totals)) (takesIn p) (inPhase p k m word) (inPhase p (plain k) m word)
@@ -310,7 +335,8 @@ module _ (k : Core) (m : List ℕ) (word : ℕ) where
   word-spent : OutOfNumbers k m word → wordStep k m word .answer .refusal ≡ refusal.Number
   word-spent out = go word-beside
     where
-      go : Beside (isSpent (k .tally .totals)) (takesIn (k .stage .phase)) (wordStep k m word) (wordStep (plain k) m word) → wordStep k m word .answer .refusal ≡ refusal.Number
+      go : Beside (isSpent (k .tally .totals)) (takesIn (k .stage .phase)) (wordStep k m word) (wordStep (plain k) m word)
+          → wordStep k m word .answer .refusal ≡ refusal.Number
       go (same n e f) = absurd (f (out .spent) (out .takes-one) (ap codeOf (ap (λ (o : WordOutcome). o .answer .refusal) e ∙ out .accepted)))
       go (lacks number spent takes-one accepted) = number
 
@@ -355,7 +381,8 @@ module _ (bus : Bus) (s : Session) (m : List ℕ) (u : ℕ) where
       (λ h. of-choice P _ (λ h is. absurd (none-not is)) (λ h is. word-only (s .core) m whole is .spent)))))
 
 -- units, one after the other
-plain-next : (bus : Bus) (x : State) (u : ℕ) → codeOf (unitStep bus (x .session) (x .memory) u .answer .refusal) ≢ 25 → plainState (next bus x u) ≡ next bus (plainState x) u
+plain-next : (bus : Bus) (x : State) (u : ℕ) → codeOf (unitStep bus (x .session) (x .memory) u .answer .refusal) ≢ 25
+    → plainState (next bus x u) ≡ next bus (plainState x) u
 plain-next bus x u n = ap (λ (o : line.UnitOutcome). record { session = o .answer .session; memory = o .memory }) (unit-same bus (x .session) (x .memory) u n)
 
 units-same : (bus : Bus) (units : List ℕ) (x : State) → NoneSpent bus x units → ButNumbers bus x units
@@ -381,7 +408,13 @@ none-stays : (bus : Bus) (x : State) (u : ℕ) → KeepsNone (totals x) → Keep
 none-stays bus x u none =
     let k : Core = x .session .core in
     let here : plainState x ≡ x =
-    ap (λ (t : Totals). record { session = record { core = changed k (k .ended) (k .on) (k .begun) (tallied (k .tally .checksum) t) (k .stage .phase); line = x .session .line }; memory = x .memory })
+    ap (λ (t : Totals). record {
+      session = record {
+        core = changed k (k .ended) (k .on) (k .begun) (tallied (k .tally .checksum) t) (k .stage .phase);
+        line = x .session .line;
+      };
+      memory = x .memory;
+    })
     (none-left (totals x) none) in
     let there : plainState (next bus x u) ≡ next bus x u = plain-next bus x u (none-never bus x u none) ∙ ap (λ (y : State). next bus y u) here in (
       sym (ap (λ (y : State). totals y .next) there),

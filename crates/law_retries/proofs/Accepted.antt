@@ -1,4 +1,5 @@
--- A command none of whose units is refused is granted by the map, passes no largest total and finds a number: a refusal would have been said at the word that decides.
+-- A command none of whose units is refused is granted by the map, passes no largest total and finds a number: a refusal would have been said at the word that
+-- decides.
 use Prim.Native.Nat.{ℕ}
 use mathlib.Core.Bool.{Bool, true}
 use mathlib.Core.List.{List, [], _∷_}
@@ -17,7 +18,7 @@ use Rattle.commands.specs.declared.Judged.{Judged}
 use Rattle.commands.proofs.Judging.{granted-before, load-passes, fill-passes, setting-passes}
 use Rattle.sent.specs.rules.Bus.{allUnits}
 use Rattle.sent.specs.rules.Feeding.{NoneRefused}
-use Rattle.machine.specs.rules.Machine.{tallied, numbering, counting}
+use Rattle.machine.specs.rules.Machine.{tallied, outOfNumbers, overflowing}
 use Rattle.machine.specs.claims.Words.{doneAtLast}
 use Rattle.sent.specs.declared.Bus.{Bus}
 use Rattle.machine.specs.declared.Core.{Core}
@@ -25,7 +26,8 @@ use Rattle.machine.specs.declared.Phase.the-variants.{Opcode}
 use Rattle.machine.specs.declared.Tally.{Tally}
 use Rattle.machine.proofs.Granted.{GrantedAt, Numbered, numbers, last-numbered, section-numbered, section-counts, load-not-refused, done-not-refused}
 use Rattle.law_retries.specs.claims.Pieces.{Piece, load, fill, setting, wordsOf, Sendable, judgedOf, loadOpcode, fillOpcode, settingOpcode}
-use Rattle.law_retries.proofs.Taking.{writeOf, Room, running, awaiting, load-apart, fill-apart, setting-apart, load-row, fill-row, setting-row, command-accepted}
+use Rattle.law_retries.proofs.Taking.{writeOf, Room, running, awaiting, load-apart, fill-apart, setting-apart, load-row, fill-row, setting-row}
+use Rattle.law_retries.proofs.Taking.{command-accepted}
 
 -- what the map refuses has a refusal's number
 judged-numbered : (windows : List Window) (c : Piece) → Numbered (judgedOf windows c)
@@ -42,14 +44,16 @@ pub record Fits (windows : List Window) (dialect : Dialect) (t : Totals) (c : Pi
 abbrev within : List Window → Dialect → Bool → Tally → Command → Core
 within windows dialect on tally c = running windows dialect on true (tallied (tally .checksum) (turned c (tally .totals))) Opcode
 
-pub piece-accepted : (bus : Bus) (windows : List Window) (dialect : Dialect) (on begun : Bool) (tally : Tally) (m : List ℕ) → length m ≡ sumOf windows → (c : Piece)
+pub piece-accepted : (bus : Bus) (windows : List Window) (dialect : Dialect) (on begun : Bool) (tally : Tally) (m : List ℕ) → length m ≡ sumOf windows
+    → (c : Piece)
     → Sendable c → NoneRefused bus (awaiting windows dialect on begun tally m) (allUnits bus (wordsOf c)) → Fits windows dialect (tally .totals) c
 unfolding doneAtLast fillDone settingDone
 piece-accepted bus windows dialect on begun tally m lent (load address size contents) sendable n =
     let k = within windows dialect on tally command.Load in
     let judged : Judged = loadJudged windows address size in
     let g =
-    load-not-refused _ address size (counting k size judged) (section-numbered k size judged (judged-numbered windows (load address size contents)))
+    load-not-refused _ address size (outOfNumbers k (overflowing k size judged))
+    (section-numbered k size judged (judged-numbered windows (load address size contents)))
     (command-accepted bus windows dialect on begun tally m lent loadOpcode command.Load address (size ∷ []) load-apart
     (load-row dialect) (sendable .0 .1 .0, (sendable .0 .1 .1 .0, tt)) contents n) in
     let counts = section-counts k size judged (g .place) (g .granted) in
@@ -58,7 +62,8 @@ piece-accepted bus windows dialect on begun tally m lent (fill address size kind
     let k = within windows dialect on tally command.Fill in
     let judged : Judged = fillJudged windows address size kind in
     let g =
-    done-not-refused _ _ (counting k size judged) _ _ _ (section-numbered k size judged (judged-numbered windows (fill address size kind pattern)))
+    done-not-refused _ _ (outOfNumbers k (overflowing k size judged)) _ _ _
+    (section-numbered k size judged (judged-numbered windows (fill address size kind pattern)))
     (command-accepted bus windows dialect on begun tally m lent fillOpcode command.Fill address (size ∷ kind ∷ pattern ∷ []) fill-apart
     (fill-row dialect) (sendable .0 .1) [] n) in
     let counts = section-counts k size judged (g .place) (g .granted) in
@@ -67,7 +72,7 @@ piece-accepted bus windows dialect on begun tally m lent (setting word address v
     let k = within windows dialect on tally command.BootTable in
     let judged : Judged = settingJudged windows word address value in
     let g =
-    done-not-refused _ _ (numbering k judged) _ _ _ (last-numbered k judged (judged-numbered windows (setting word address value delay)))
+    done-not-refused _ _ (outOfNumbers k judged) _ _ _ (last-numbered k judged (judged-numbered windows (setting word address value delay)))
     (command-accepted bus windows dialect on begun tally m lent settingOpcode command.BootTable word (address ∷ value ∷ delay ∷ []) setting-apart
     (setting-row dialect) (sendable .0 .1) [] n) in
     let parts = granted-before (isSpent (settled (tally .totals))) refusal.Number judged (g .place) (g .granted) in

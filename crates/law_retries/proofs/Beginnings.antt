@@ -1,6 +1,6 @@
 -- Where an attempt begins: after an Enable, a Request or a Start-Over that was taken as an opcode, since each puts the checksum to 0 and levels the totals; and
--- after the answered start unit, since from the opening on the checksum is 0 and the totals stand at their mark until an opcode is acknowledged. What a session has gathered and the memory that it is
--- lent are as they must be, since units keep them so.
+-- after the answered start unit, since from the opening on the checksum is 0 and the totals stand at their mark until an opcode is acknowledged. What a session
+-- has gathered and the memory that it is lent are as they must be, since units keep them so.
 use Prim.Native.Nat.{ℕ}
 use mathlib.Core.Bool.{Bool, true, false, not, _&&_, _||_, or-true}
 use mathlib.Core.List.{List}
@@ -30,13 +30,15 @@ use Rattle.machine.specs.declared.Reply.{Reply}
 use Rattle.machine.specs.declared.Tally.{Tally}
 use Rattle.sent.proofs.Cases.{unit-start}
 use Rattle.law_retries.specs.claims.Pieces.{enableOpcode, requestOpcode, startOverOpcode}
-use Rattle.law_retries.specs.claims.Retries.{Awaits, Begins, Reached, Whole, Idle, AtStart, JustAfter, after-start, after-enable, after-request, after-start-over, afterRequest, Beginnings}
+use Rattle.law_retries.specs.claims.Retries.{Awaits, Begins, Reached, Whole, Idle, AtStart, JustAfter, after-start, after-enable, after-request}
+use Rattle.law_retries.specs.claims.Retries.{after-start-over, afterRequest, Beginnings}
 use Rattle.law_retries.proofs.Reached.{unused-level, reached-unused, reached-sound, StartUnit, answered-start}
 use Rattle.law_retries.proofs.Taking.{enable-row, awaiting, opcode-goes, request-goes, start-over-goes}
 
 -- the state that awaits an opcode, written out
 pub awaits-awaiting : (x : State) → Awaits x
-    → x ≡ awaiting (x .session .core .windows) (x .session .core .dialect) (x .session .core .on) (x .session .core .begun) (x .session .core .tally) (x .memory)
+    → x ≡ awaiting (x .session .core .windows) (x .session .core .dialect) (x .session .core .on) (x .session .core .begun) (x .session .core .tally)
+    (x .memory)
 awaits-awaiting x b =
     λ i. record {
       session = record {

@@ -1,5 +1,5 @@
--- The theorem on the entries. An attempt stamps bits that its commands write, and no others; what follows stamps the bits that its commands write, by the same numbers
--- with the attempt and without it, since the totals settle to the same. So it writes over all that the attempt stamped.
+-- The theorem on the entries. An attempt stamps bits that its commands write, and no others; what follows stamps the bits that its commands write, by the same
+-- numbers with the attempt and without it, since the totals settle to the same. So it writes over all that the attempt stamped.
 use Prim.Native.Nat.{ℕ, _-_, _*_}
 use mathlib.Core.Bool.{Bool, true, false, _||_, true≢false}
 use mathlib.Core.List.{List, [], _∷_, _++_, append-nil}
@@ -25,7 +25,7 @@ use Rattle.commands.specs.rules.Wrote.{noneWrote, bytesWrote, settingWrote}
 use Rattle.commands.specs.declared.Judged.{Judged}
 use Rattle.commands.specs.declared.Judged.the-variants.{Granted, Refused}
 use Rattle.commands.specs.declared.Wrote.{Wrote}
-use Rattle.law_effects.specs.claims.Effects.{Effect, writes}
+use Rattle.law_effects.specs.claims.Effects.{Effect, writes, someWrites}
 use Rattle.law_effects.specs.claims.Wrote.{Reports}
 use Rattle.law_effects.proofs.Wrote.{fill-reports, shape-reports}
 use Rattle.bit_stamps.specs.rules.Stamps.{stamped}
@@ -37,10 +37,12 @@ use Rattle.sent.specs.declared.Bus.{Bus}
 use Rattle.machine.specs.declared.Tally.{Tally}
 use Rattle.sent.proofs.Feeding.{units-append, none-refused-words}
 use Rattle.machine.proofs.Laws.{data-count}
-use Rattle.law_retries.specs.claims.Pieces.{Piece, load, fill, setting, wordsOf, allWords, Sendable, AllSendable, judgedOf, effectAt, effectIf, effectOf, someWrites, startOverOpcode}
+use Rattle.law_retries.specs.claims.Pieces.{Piece, load, fill, setting, wordsOf, allWords, Sendable, AllSendable, judgedOf, effectAt, effectIf, effectOf}
+use Rattle.law_retries.specs.claims.Pieces.{anyWrites, startOverOpcode}
 use Rattle.law_retries.specs.claims.Retries.{Attempt, askingOpcode, attemptWords, attemptsWords, attemptsPieces, Retried}
 use Rattle.law_retries.proofs.Beginnings.{beginnings}
-use Rattle.law_retries.proofs.Retries.{begins-awaiting, wrote-alike, fit-alike, first-not-alone, attempt-leads, attempts-lead, many-retries-leave-no-trace}
+use Rattle.law_retries.proofs.Retries.{begins-awaiting, wrote-alike, fit-alike, first-not-alone, attempt-leads, attempts-lead}
+use Rattle.law_retries.proofs.Retries.{many-retries-leave-no-trace}
 use Rattle.law_retries.proofs.Several.{memoriesOf, AllGranted, AllFit, sendable-append, several-length, several-go, several-accepted, piece-does}
 use Rattle.law_retries.proofs.Taking.{writeOf, tallyOf, memoryOf, awaiting, request-row, start-over-row, piece-goes}
 use Rattle.bit_watch.specs.rules.Watched.{entriesAfter}
@@ -64,7 +66,8 @@ wrote-at-alike dialect a b same (load address size contents) place =
 wrote-at-alike dialect a b same (fill address size kind pattern) place = ap (λ (t : Totals). bytesWrote (Granted place) size (t .next)) same
 wrote-at-alike dialect a b same (setting word address value delay) place = ap (λ (t : Totals). settingWrote (Granted place) word (t .next)) same
 
-wrote-if-alike : (dialect : Dialect) (a b : Totals) → settled a ≡ settled b → (c : Piece) (judged : Judged) → wroteIf dialect a c judged ≡ wroteIf dialect b c judged
+wrote-if-alike : (dialect : Dialect) (a b : Totals) → settled a ≡ settled b → (c : Piece) (judged : Judged)
+    → wroteIf dialect a c judged ≡ wroteIf dialect b c judged
 wrote-if-alike dialect a b same c (Granted place) = wrote-at-alike dialect a b same c place
 wrote-if-alike dialect a b same c (Refused q) = refl
 
@@ -84,12 +87,14 @@ tells-at : (windows : List Window) (dialect : Dialect) (t : Totals) (c : Piece) 
 tells-at windows dialect t (load address size contents) sendable place granted p =
     ap₂ (λ (first count : ℕ). within first count p) (omega arith) (ap (λ (n : ℕ). 8 * n) (sym (data-count size contents (sendable .1))))
 tells-at windows dialect t (fill address size kind pattern) sendable place granted p =
-    reported (bytesWrote (Granted place) size (settled t .next)) (effectAt (fill address size kind pattern) place) p (fill-reports windows address size kind pattern place (settled t .next) granted)
+    reported (bytesWrote (Granted place) size (settled t .next)) (effectAt (fill address size kind pattern) place) p
+    (fill-reports windows address size kind pattern place (settled t .next) granted)
 tells-at windows dialect t (setting word address value delay) sendable place granted p =
-    reported (settingWrote (Granted place) word (settled t .next)) (effectAt (setting word address value delay) place) p (shape-reports place value (settled t .next) (shapeOf word))
+    reported (settingWrote (Granted place) word (settled t .next)) (effectAt (setting word address value delay) place) p
+    (shape-reports place value (settled t .next) (shapeOf word))
 
 tells-bits : (windows : List Window) (dialect : Dialect) (t : Totals) (cs : List Piece) → AllSendable cs → AllGranted windows cs → (p : ℕ)
-    → someTell (wrotesOf windows dialect t cs) p ≡ someWrites windows cs p
+    → someTell (wrotesOf windows dialect t cs) p ≡ anyWrites windows cs p
 unfolding wrotesOf someTell someWrites AllSendable AllGranted effectOf
 tells-bits windows dialect t [] s g p = refl
 tells-bits windows dialect t (c ∷ cs) s g p =
@@ -100,12 +105,12 @@ tells-bits windows dialect t (c ∷ cs) s g p =
     (tells-bits windows dialect (wrote dialect t (writeOf c)) cs (s .1) (g .1) p)
 
 -- two lists of commands
-some-pieces : (windows : List Window) (bs cs : List Piece) (p : ℕ) → someWrites windows (bs ++ cs) p ≡ (someWrites windows bs p || someWrites windows cs p)
+some-pieces : (windows : List Window) (bs cs : List Piece) (p : ℕ) → anyWrites windows (bs ++ cs) p ≡ (anyWrites windows bs p || anyWrites windows cs p)
 unfolding someWrites
 some-pieces windows [] cs p = refl
 some-pieces windows (b ∷ bs) cs p =
     ap (λ (t : Bool). writes (effectOf windows b) p || t) (some-pieces windows bs cs p)
-    ∙ sym (either (writes (effectOf windows b) p) (someWrites windows bs p) (someWrites windows cs p))
+    ∙ sym (either (writes (effectOf windows b) p) (anyWrites windows bs p) (anyWrites windows cs p))
   where
     either : (a b c : Bool) → ((a || b) || c) ≡ (a || (b || c))
     either true b c = refl
@@ -127,7 +132,8 @@ module _ (bus : Bus) (windows : List Window) (dialect : Dialect) (on : Bool) whe
       (piece-stamps bus windows dialect on begun tally m lent c (s .0) granted (f .0) places entries
       ∙ sym (ap (λ (j : Judged). stamped entries places (wroteIf dialect (tally .totals) c j)) granted))
       (piece-goes bus windows dialect on begun tally m lent c (s .0) granted (f .0) .leads)
-      ∙ several-stamp places cs _ true (tallyOf dialect on c tally) (memoryOf windows c m) (piece-does windows m lent c (s .0) (g .0) .same-length ∙ lent) (s .1) (g .1) (f .1)
+      ∙ several-stamp places cs _ true (tallyOf dialect on c tally) (memoryOf windows c m) (piece-does windows m lent c (s .0) (g .0) .same-length ∙ lent)
+      (s .1) (g .1) (f .1)
 
   -- the close of an attempt stamps nothing
   closing-writes : (asked begun : Bool) (tally : Tally) (m : List ℕ) → length m ≡ sumOf windows
@@ -163,8 +169,9 @@ module _ (bus : Bus) (windows : List Window) (dialect : Dialect) (on : Bool) whe
   record Stamped (attempts : List Attempt) (begun : Bool) (t : Totals) (m : List ℕ) : Type 0 where
     told : List Wrote
     stamps : (places entries : List ℕ)
-        → entriesAfter bus places entries (awaiting windows dialect on begun (tallied 0 t) m) (allUnits bus (attemptsWords attempts)) ≡ stampedBy entries places told
-    bits : (p : ℕ) → someTell told p ≡ someWrites windows (attemptsPieces attempts) p
+        → entriesAfter bus places entries (awaiting windows dialect on begun (tallied 0 t) m) (allUnits bus (attemptsWords attempts)) ≡ stampedBy entries
+        places told
+    bits : (p : ℕ) → someTell told p ≡ anyWrites windows (attemptsPieces attempts) p
 
   attempts-stamp : (attempts : List Attempt) (begun : Bool) (t : Totals) (m : List ℕ) → length m ≡ sumOf windows → Level t
       → (t .asked ≡ true → getD (attemptsWords attempts) 0 0 ≢ startOverOpcode)
@@ -215,7 +222,8 @@ module _ (bus : Bus) (windows : List Window) (dialect : Dialect) (on : Bool) whe
       let stamp = attempts-stamp attempts begun t m lent (r .begins .level) (r .not-alone) (sendable .0) (r .accepted .attempt-accepted) in
       let still = several-length windows (attemptsPieces attempts) m lent (sendable .0) (left .granted) ∙ lent in
       let granted =
-      several-accepted windows bus dialect on (c ∷ cs) (left .later) (tallied 0 (left .last)) (memoriesOf windows (attemptsPieces attempts) m) still (sendable .1)
+      several-accepted windows bus dialect on (c ∷ cs) (left .later) (tallied 0 (left .last)) (memoriesOf windows (attemptsPieces attempts) m) still
+      (sendable .1)
       (subst (λ (y : State). NoneRefused bus y (allUnits bus (allWords (c ∷ cs)))) (left .leads) (r .accepted .following-accepted)) in
       let own = wrotesOf windows dialect t (c ∷ cs) in
       ap (entriesAfter bus places entries (awaiting windows dialect on begun (tallied 0 t) m)) (units-append bus (attemptsWords attempts) (allWords (c ∷ cs)))
@@ -225,14 +233,16 @@ module _ (bus : Bus) (windows : List Window) (dialect : Dialect) (on : Bool) whe
       ∙ ap (stampedBy (stampedBy entries places (stamp .told)) places) (wrotes-alike windows dialect (left .last) t (left .same) c cs)
       ∙ covered places (stamp .told) own entries (λ p h.
       tells-bits windows dialect t (c ∷ cs) (sendable .1) (granted .0) p ∙ r .covered p (sym (stamp .bits p) ∙ h))
-      ∙ sym (several-stamp places (c ∷ cs) entries begun (tallied 0 t) m lent (sendable .1) (granted .0) (fit-alike dialect c cs (left .last) t (left .same) (granted .1)))
+      ∙ sym (several-stamp places (c ∷ cs) entries begun (tallied 0 t) m lent (sendable .1) (granted .0)
+      (fit-alike dialect c cs (left .last) t (left .same) (granted .1)))
 
 pub many-retries-leave-no-entry : ManyRetriesLeaveNoEntry
 many-retries-leave-no-entry bus x attempts c cs r places entries further =
     let same =
     subst
     (λ (y : State). Retried bus y (attemptsWords attempts) (attemptsPieces attempts) (c ∷ cs)
-    → entriesAfter bus places entries y (allUnits bus (attemptsWords attempts ++ allWords (c ∷ cs))) ≡ entriesAfter bus places entries y (allUnits bus (allWords (c ∷ cs))))
+    → entriesAfter bus places entries y (allUnits bus (attemptsWords attempts ++ allWords (c ∷ cs))) ≡ entriesAfter bus places entries y
+    (allUnits bus (allWords (c ∷ cs))))
     (sym (begins-awaiting x (r .begins))) (λ q. same-entries bus _ _ _ _ _ _ attempts c cs q places entries) r in
     entries-append bus places entries x (allUnits bus (attemptsWords attempts ++ allWords (c ∷ cs))) further
     ∙ ap₂ (λ (es : List ℕ) (y : State). entriesAfter bus places es y further) same (many-retries-leave-no-trace bus x attempts c cs r .same-state)

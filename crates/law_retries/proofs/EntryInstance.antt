@@ -9,6 +9,7 @@ use borrow.Author.Tests.{eqb-false}
 use Rattle.words.specs.rules.Bits.{bit, join, withField, within}
 use Rattle.words.specs.rules.Bytes.{byte, number, bytesAt, put, fits, fieldFits, fieldWritten}
 use Rattle.words.specs.rules.Choice.{pick}
+use Rattle.law_effects.specs.claims.Effects.{someWrites}
 use Rattle.checksum.specs.rules.Checksum as feeding
 use Rattle.windows.specs.rules.Map.{soundWindow, allSound, rising, goodMap, keptOf}
 use Rattle.windows.specs.rules.Window.{hasRight, inside, grantsRange, placeFrom, placeOf, sumOf}
@@ -27,12 +28,13 @@ use Rattle.sent.specs.rules.Opening.{openedBy, numberingFrom}
 use Rattle.sent.specs.declared.Bus.the-variants.{Bytes}
 use Rattle.sent.proofs.Feeding.{none-refused-by}
 use Rattle.law_retries.specs.claims.Example.{startTo}
-use Rattle.law_retries.specs.claims.Pieces.{allWords, AllSendable, effectOf, someWrites}
+use Rattle.law_retries.specs.claims.Pieces.{allWords, AllSendable, effectOf, anyWrites}
 use Rattle.law_retries.specs.claims.Retries.{after, Begins, NotAlone, attemptWords, Retried}
 use Rattle.law_retries.proofs.Beginnings.{beginnings}
 use Rattle.law_retries.proofs.Instance.{worked}
 use Rattle.bit_watch.specs.rules.Watched.{entriesAfter}
-use Rattle.law_retries.specs.claims.EntryExample.{begun, chosen, none, entryOf, swapped, settingsFrom, meant, missing, numberAgain, numberKept, NumbersAgain, KeepsItsNumber}
+use Rattle.law_retries.specs.claims.EntryExample.{begun, chosen, none, entryOf, swapped, settingsFrom, meant, missing, numberAgain, numberKept}
+use Rattle.law_retries.specs.claims.EntryExample.{NumbersAgain, KeepsItsNumber}
 use Rattle.law_retries.proofs.Entries.{retries-leave-no-entry}
 
 -- what is refused of some words, and no refusal
@@ -47,8 +49,8 @@ record Computed : Type 0 where
   tried : refusals begun (attemptWords swapped) ≡ quiet (attemptWords swapped)
   after-meant : refusals (after Bytes begun (attemptWords swapped)) (allWords meant) ≡ quiet (allWords meant)
   after-missing : refusals (after Bytes begun (attemptWords swapped)) (allWords missing) ≡ quiet (allWords missing)
-  attempt-bits : (p : ℕ) → someWrites (begun .session .core .windows) (swapped .pieces) p ≡ (within 8 4 p || (within 4 3 p || false))
-  meant-bits : (p : ℕ) → someWrites (begun .session .core .windows) meant p ≡ (within 4 3 p || (within 8 4 p || false))
+  attempt-bits : (p : ℕ) → anyWrites (begun .session .core .windows) (swapped .pieces) p ≡ (within 8 4 p || (within 4 3 p || false))
+  meant-bits : (p : ℕ) → anyWrites (begun .session .core .windows) meant p ≡ (within 4 3 p || (within 8 4 p || false))
   attempt-low : entryOf (attemptWords swapped) 6 ≡ 2
   attempt-high : entryOf (attemptWords swapped) 8 ≡ 1
   low : entryOf (attemptWords swapped ++ allWords meant) 6 ≡ numberAgain
@@ -156,7 +158,8 @@ keeps-its-number =
           let other : eqb numberKept 0 ≡ false = refl in
           eqb-false numberKept 0 other
           (sym (computed .kept)
-          ∙ ap (λ (units : List ℕ). entryAt (entriesAfter Bytes chosen none begun units) 0 6) (sym (append-nil (allUnits Bytes (attemptWords swapped ++ allWords missing))))
+          ∙ ap (λ (units : List ℕ). entryAt (entriesAfter Bytes chosen none begun units) 0 6)
+          (sym (append-nil (allUnits Bytes (attemptWords swapped ++ allWords missing))))
           ∙ ap (λ (es : List ℕ). entryAt es 0 6) (same chosen none [])
           ∙ ap (λ (units : List ℕ). entryAt (entriesAfter Bytes chosen none begun units) 0 6) (append-nil (allUnits Bytes (allWords missing)))
           ∙ computed .never-tried);

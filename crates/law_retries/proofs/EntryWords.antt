@@ -1,5 +1,5 @@
--- The entries after whole words, on either line: the units of a word stamp what the word tells that it wrote. So the words of a command that is granted stamp its bits by
--- its number: a fill or a setting at its last word, a load in pieces.
+-- The entries after whole words, on either line: the units of a word stamp what the word tells that it wrote. So the words of a command that is granted stamp
+-- its bits by its number: a fill or a setting at its last word, a load in pieces.
 use Prim.Native.Nat.{ℕ, suc, _+_, _-_, _*_, _/_, _^_, _≤_, _<_, min}
 use mathlib.Core.Bool.{Bool, true, false}
 use mathlib.Core.List.{List, [], _∷_, _++_}
@@ -24,7 +24,8 @@ use Rattle.opcodes.specs.declared.Mode.the-variants.{Sent}
 use Rattle.ledger.specs.claims.Attempts.{section, wrote}
 use Rattle.ledger.specs.rules.Totals.{settled}
 use Rattle.ledger.specs.declared.Totals.{Totals}
-use Rattle.commands.specs.rules.Commands.{loadJudged, loaded, fillDone, fillMemory, settingDone, settingMemory}
+use Rattle.commands.specs.rules.Commands.{loadJudged, fillDone, fillMemory, settingDone, settingMemory}
+use Rattle.stores.specs.rules.Stores.{loaded}
 use Rattle.commands.specs.rules.Wrote.{noneWrote, bytesWrote, settingWrote}
 use Rattle.commands.specs.declared.Judged.{Judged}
 use Rattle.commands.specs.declared.Judged.the-variants.{Granted}
@@ -38,7 +39,8 @@ use Rattle.sent.specs.rules.Feeding.{State, next, fed}
 use Rattle.sent.specs.claims.Lift.{atWord, Ready}
 use Rattle.sent.specs.rules.Line as line
 use Rattle.sent.specs.rules.Line.{carried, isStart}
-use Rattle.machine.specs.rules.Machine.{WordOutcome, tallied, await, withChecksum, _leaving_, noneKept, keeping, dataBytes, awaited, counting, loadBegun, after, performed, opening, wordStep}
+use Rattle.machine.specs.rules.Machine.{WordOutcome, tallied, await, withChecksum, _leaving_, noneKept, keeping, dataBytes, awaited, overflowing, outOfNumbers}
+use Rattle.machine.specs.rules.Machine.{loadBegun, after, performed, opening, wordStep}
 use Rattle.machine.specs.rules.Replies.{silence}
 use Rattle.machine.specs.claims.Words.{afterWords, asking, doneAtLast}
 use Rattle.sent.specs.declared.Bus.{Bus}
@@ -55,7 +57,8 @@ use Rattle.sent.proofs.Gathering.{holding, bytes-again, halves-again, begins-wo
 use Rattle.machine.proofs.Laws.{data-step}
 use Rattle.sent.proofs.Lift.{accepted-goes}
 use Rattle.law_retries.specs.claims.Pieces.{Piece, load, fill, setting, wordsOf, AreWords, Sendable, judgedOf, loadOpcode, fillOpcode, settingOpcode}
-use Rattle.law_retries.proofs.Taking.{writeOf, Room, tallyOf, memoryOf, running, awaiting, accepted, Apart, taken, load-apart, fill-apart, setting-apart, load-row, fill-row, setting-row, begun-ready, opcode-ready, length-loaded}
+use Rattle.law_retries.proofs.Taking.{writeOf, Room, tallyOf, memoryOf, running, awaiting, accepted, Apart, taken, load-apart, fill-apart, setting-apart}
+use Rattle.law_retries.proofs.Taking.{load-row, fill-row, setting-row, begun-ready, opcode-ready, length-loaded}
 use Rattle.bit_watch.specs.rules.Watched.{unitEntries, entriesAfter}
 use Rattle.law_retries.proofs.Covered.{stampedBy, by-append}
 
@@ -137,7 +140,8 @@ word-writes bus k m word ready e fine =
           word-stamps bus k m word ready places entries ∙ ap (λ (o : WordOutcome). stamped entries places (o .answer .wrote)) e;
     }
 
-pub silent-word : (bus : Bus) (k : Core) (m : List ℕ) (word : ℕ) → Ready bus k m word → {o : WordOutcome} → wordStep k m word ≡ o → codeOf (o .answer .refusal) ≡ 0
+pub silent-word : (bus : Bus) (k : Core) (m : List ℕ) (word : ℕ) → Ready bus k m word → {o : WordOutcome} → wordStep k m word ≡ o
+    → codeOf (o .answer .refusal) ≡ 0
     → o .answer .wrote ≡ noneWrote → Writes bus (atWord k m) (unitsOf bus word) (atWord (o .answer .core) (o .memory)) []
 unfolding stampedBy
 silent-word bus k m word ready e fine none =
@@ -164,12 +168,14 @@ data-stamps bus places (w ∷ ws) k m entries p n runs since lent small at whole
     let later = await k (withChecksum k (pick (k .on) (feeding.fed (k .tally .checksum) w (8 * min n 4)) (k .tally .checksum))) (awaited (p + n) (n - 4)) in
     let word = word-writes bus k m w (begun-ready bus k m w runs since lent (small .0)) step refl in
     let rest =
-    data-stamps bus places ws later (loaded m p (dataBytes w n)) (stamped entries places (bytesWrote (Granted p) (min n 4) number)) (p + min n 4) (n - 4) runs since
+    data-stamps bus places ws later (loaded m p (dataBytes w n)) (stamped entries places (bytesWrote (Granted p) (min n 4) number)) (p + min n 4) (n - 4) runs
+    since
     (length-loaded m p (dataBytes w n) ∙ lent) (small .1) (ap (λ (e : ℕ). awaited e (n - 4)) end) (omega arith) in
     entries-append bus places entries (atWord k m) (unitsOf bus w) (allUnits bus ws)
     ∙ ap₂ (λ (es : List ℕ) (x : State). entriesAfter bus places es x (allUnits bus ws)) (word .stamps places entries) (word .leads)
     ∙ rest
-    ∙ stamp-laws entries places .in-pieces (bytesWrote (Granted p) (min n 4) number) (bytesWrote (Granted (p + min n 4)) (n - 4) number) (bytesWrote (Granted p) n number)
+    ∙ stamp-laws entries places .in-pieces (bytesWrote (Granted p) (min n 4) number) (bytesWrote (Granted (p + min n 4)) (n - 4) number)
+    (bytesWrote (Granted p) n number)
     (record { low = refl; next = omega arith; count = omega arith; numbers = (refl, refl) })
 
 module _ (bus : Bus) (windows : List Window) (dialect : Dialect) (on : Bool) where
@@ -178,7 +184,8 @@ module _ (bus : Bus) (windows : List Window) (dialect : Dialect) (on : Bool) whe
     core = running windows dialect on true tally phase.Opcode
 
     -- the argument words that are left
-    arguments-write : (kept : Kept) (word : ℕ) (rest : List ℕ) → AreWords (word ∷ rest) → {reply : Reply} {event : Event} {k : Core} {told : Wrote} {left : List ℕ}
+    arguments-write : (kept : Kept) (word : ℕ) (rest : List ℕ) → AreWords (word ∷ rest)
+        → {reply : Reply} {event : Event} {k : Core} {told : Wrote} {left : List ℕ}
         → doneAtLast c core m kept word rest ≡ accepted reply event k told left
         → Writes bus (atWord (asking core c (suc (length rest)) kept) m) (allUnits bus (word ∷ rest)) (atWord k left) (told ∷ [])
     unfolding doneAtLast
@@ -195,19 +202,23 @@ module _ (bus : Bus) (windows : List Window) (dialect : Dialect) (on : Bool) whe
         → doneAtLast c (taken bus windows dialect on begun tally m lent c) m noneKept word rest ≡ accepted reply event k told left
         → Writes bus (awaiting windows dialect on begun tally m) (allUnits bus (opcode ∷ word ∷ rest)) (atWord k left) (told ∷ [])
     command-writes opcode c word rest apart known small e =
-        silent-word bus _ m opcode (opcode-ready bus windows dialect on begun tally m lent opcode apart) (opcode-asks _ m opcode (length rest) refl known) refl refl
+        silent-word bus _ m opcode (opcode-ready bus windows dialect on begun tally m lent opcode apart) (opcode-asks _ m opcode (length rest) refl known)
+        refl refl
         so arguments-write c _ m lent noneKept word rest small e
 
     -- an opcode that has no words, and writes nothing
-    pub opcode-silent : (opcode : ℕ) (c : Command) → Apart opcode → lookedUp opcode Sent dialect ≡ Known c 0 → {reply : Reply} {event : Event} {k : Core} {left : List ℕ}
+    pub opcode-silent : (opcode : ℕ) (c : Command) → Apart opcode → lookedUp opcode Sent dialect ≡ Known c 0
+        → {reply : Reply} {event : Event} {k : Core} {left : List ℕ}
         → opening opcode (performed c (taken bus windows dialect on begun tally m lent c) m noneKept 0) ≡ accepted reply event k noneWrote left
         → Writes bus (awaiting windows dialect on begun tally m) (unitsOf bus opcode) (atWord k left) []
     unfolding afterWords
     opcode-silent opcode c apart known e =
-        silent-word bus _ m opcode (opcode-ready bus windows dialect on begun tally m lent opcode apart) (by-the-table .done _ m opcode c 0 [] refl known refl ∙ e) refl refl
+        silent-word bus _ m opcode (opcode-ready bus windows dialect on begun tally m lent opcode apart)
+        (by-the-table .done _ m opcode c 0 [] refl known refl ∙ e) refl refl
 
     module _ (address size place : ℕ)
-        (granted : counting (taken bus windows dialect on begun tally m lent command.Load) size (loadJudged windows address size) ≡ Granted place) where
+        (granted : outOfNumbers (taken bus windows dialect on begun tally m lent command.Load)
+        (overflowing (taken bus windows dialect on begun tally m lent command.Load) size (loadJudged windows address size)) ≡ Granted place) where
       -- a load, granted at its size word, and its data
       abbrev loading : Core
       loading =
@@ -220,7 +231,8 @@ module _ (bus : Bus) (windows : List Window) (dialect : Dialect) (on : Bool) whe
       unfolding doneAtLast
       load-begins address< size< =
           command-writes loadOpcode command.Load address (size ∷ []) load-apart (load-row dialect) (address<, (size<, tt))
-          (ap (λ (j : Judged). loadBegun (asking (taken bus windows dialect on begun tally m lent command.Load) command.Load 1 (keeping noneKept address)) address size j leaving m) granted)
+          (ap (λ (j : Judged). loadBegun (asking (taken bus windows dialect on begun tally m lent command.Load) command.Load 1 (keeping noneKept address))
+          address size j leaving m) granted)
 
       load-stamps : (contents : List ℕ) → address < 2 ^ 32 → size < 2 ^ 32 → AreWords contents → length contents ≡ (size + 3) / 4 → (places entries : List ℕ)
           → entriesAfter bus places entries (awaiting windows dialect on begun tally m) (allUnits bus (loadOpcode ∷ address ∷ size ∷ contents))
@@ -262,10 +274,12 @@ wroteAt dialect t (setting word address value delay) place = settingWrote (Grant
 
 pub piece-stamps : (bus : Bus) (windows : List Window) (dialect : Dialect) (on begun : Bool) (tally : Tally) (m : List ℕ) → length m ≡ sumOf windows
     → (c : Piece) → Sendable c → {place : ℕ} → judgedOf windows c ≡ Granted place → Room dialect (tally .totals) (writeOf c) → (places entries : List ℕ)
-    → entriesAfter bus places entries (awaiting windows dialect on begun tally m) (allUnits bus (wordsOf c)) ≡ stamped entries places (wroteAt dialect (tally .totals) c place)
+    → entriesAfter bus places entries (awaiting windows dialect on begun tally m) (allUnits bus (wordsOf c)) ≡ stamped entries places
+    (wroteAt dialect (tally .totals) c place)
 unfolding stampedBy
 piece-stamps bus windows dialect on begun tally m lent (load address size contents) sendable {place} granted fits places entries =
-    let judged : counting (taken bus windows dialect on begun tally m lent command.Load) size (loadJudged windows address size) ≡ Granted place =
+    let judged : outOfNumbers (taken bus windows dialect on begun tally m lent command.Load)
+    (overflowing (taken bus windows dialect on begun tally m lent command.Load) size (loadJudged windows address size)) ≡ Granted place =
     unbarred _ _ _ (fits .1) ∙ unbarred _ _ _ (fits .0) ∙ granted in
     load-stamps bus windows dialect on begun tally m lent address size place judged contents (sendable .0 .1 .0) (sendable .0 .1 .1 .0) (sendable .0 .1 .1 .1)
     (sendable .1) places entries

@@ -6,6 +6,7 @@ use mathlib.Core.Path.{_≡_, refl, sym, ap, _∙_}
 use lib.Dec.{eqb, ltb, lit<}
 use lib.ListN.{length, getD, replicate}
 use borrow.Author.Tests.{eqb-false, ltb-true}
+use Rattle.law_effects.specs.claims.Effects.{someWrites}
 use Rattle.opcodes.specs.declared.Dialect.{Dialect}
 use Rattle.opcodes.specs.declared.Dialect.the-variants.{Am17xx, Dm648}
 use Rattle.opcodes.specs.declared.Event.the-variants.{Nothing}
@@ -21,7 +22,8 @@ use Rattle.windows.specs.rules.Map.{soundWindow, allSound, rising, goodMap, kep
 use Rattle.opcodes.specs.rules.Opcodes.{rows, rowServes, foundIn, lookedUp}
 use Rattle.ledger.specs.claims.Attempts.{Level}
 use Rattle.ledger.specs.rules.Totals.{isPast, following}
-use Rattle.commands.specs.rules.Commands.{multiple, rangeJudged, loadJudged, loaded, unitOf, unitsJudged, fieldShape, shapeOf, tooWide, settingDone, settingMemory}
+use Rattle.commands.specs.rules.Commands.{multiple, rangeJudged, loadJudged, unitOf, unitsJudged, fieldShape, shapeOf, tooWide, settingDone, settingMemory}
+use Rattle.stores.specs.rules.Stores.{loaded}
 use Rattle.sent.specs.rules.Bus.{startUnit, allUnits, pushed}
 use Rattle.sent.specs.rules.Feeding.{State, Heard, checksum, totals, heard, fed, answers, NoneRefused}
 use Rattle.words.specs.rules.Bytes.{AreBytes}
@@ -33,9 +35,12 @@ use Rattle.sent.specs.rules.Line.{startAnswer}
 use Rattle.sent.specs.declared.Bus.{Bus}
 use Rattle.sent.specs.declared.Bus.the-variants.{Bytes, Halves}
 use Rattle.sent.proofs.Feeding.{none-refused-by}
-use Rattle.law_retries.specs.claims.Example.{windows, before, startedTo, startTo, start, sent, abandoned, repeated, oneLoad, Worked, missing, OneBitMissed, middle, nothing, InTheMiddle, requested, StartOverAlone, unmarked, NotLevel, setOnce, NumberNotLevel, started, NothingFollows, shorter, short, MemoryTooShort}
-use Rattle.law_retries.specs.claims.Pieces.{allWords, AllSendable, effectOf, someWrites}
-use Rattle.law_retries.specs.claims.Retries.{after, Awaits, sinceOpening, Reached, Idle, AtStart, JustAfter, after-start, after-enable, attemptWords, Retried}
+use Rattle.law_retries.specs.claims.Example.{windows, before, startedTo, startTo, start, sent, abandoned, repeated, oneLoad, Worked, missing}
+use Rattle.law_retries.specs.claims.Example.{OneBitMissed, middle, nothing, InTheMiddle, requested, StartOverAlone, unmarked, NotLevel, setOnce}
+use Rattle.law_retries.specs.claims.Example.{NumberNotLevel, started, NothingFollows, shorter, short, MemoryTooShort}
+use Rattle.law_retries.specs.claims.Pieces.{allWords, AllSendable, effectOf, anyWrites}
+use Rattle.law_retries.specs.claims.Retries.{after, Awaits, sinceOpening, Reached, Idle, AtStart, JustAfter, after-start, after-enable, attemptWords}
+use Rattle.law_retries.specs.claims.Retries.{Retried}
 use Rattle.law_retries.proofs.Beginnings.{beginnings}
 use Rattle.law_retries.proofs.Retries.{retries-leave-no-trace}
 
@@ -78,7 +83,8 @@ record Computed (bus : Bus) (dialect : Dialect) : Type 0 where
   idle : Idle (started bus dialect)
   tried : refusals bus (start bus dialect) (attemptWords abandoned) ≡ quiet bus (attemptWords abandoned)
   after-tried : refusals bus (after bus (start bus dialect) (attemptWords abandoned)) (allWords repeated) ≡ quiet bus (allWords repeated)
-  same-bits : (p : ℕ) → someWrites (start bus dialect .session .core .windows) (abandoned .pieces) p ≡ someWrites (start bus dialect .session .core .windows) repeated p
+  same-bits : (p : ℕ) → anyWrites (start bus dialect .session .core .windows) (abandoned .pieces) p ≡ anyWrites (start bus dialect .session .core .windows)
+      repeated p
   after-attempt : after bus (start bus dialect) (attemptWords abandoned) .memory ≡ 0x2F ∷ 0x0F ∷ 0 ∷ 0 ∷ 1 ∷ 2 ∷ 3 ∷ 0xAA ∷ []
   after-repeat : after bus (start bus dialect) (attemptWords abandoned ++ allWords repeated) .memory ≡ 0x1F ∷ 0x02 ∷ 0 ∷ 0 ∷ 0x11 ∷ 0x22 ∷ 0x33 ∷ 0xAA ∷ []
   never-tried : after bus (start bus dialect) (allWords repeated) .memory ≡ 0x1F ∷ 0x02 ∷ 0 ∷ 0 ∷ 0x11 ∷ 0x22 ∷ 0x33 ∷ 0xAA ∷ []
@@ -89,7 +95,8 @@ record Computed (bus : Bus) (dialect : Dialect) : Type 0 where
 computed : (bus : Bus) (dialect : Dialect) → Computed bus dialect
 unfolding bit join withField within byte number bytesAt put fits fieldFits fieldWritten pick feeding.shifted feeding.fedBit feeding.fed
     feeding.fedWords hasRight inside grantsRange placeFrom placeOf sumOf soundWindow allSound rising goodMap keptOf rows rowServes foundIn
-    lookedUp multiple rangeJudged loadJudged loaded unitOf unitsJudged fieldShape shapeOf tooWide settingDone settingMemory isPast pushed carried isStart unitStep
+    lookedUp multiple rangeJudged loadJudged loaded unitOf unitsJudged fieldShape shapeOf tooWide settingDone settingMemory isPast pushed carried isStart
+    unitStep
     afterCommand awaited acknowledging wordStep openedBy numberingFrom following startAnswer startTo fed allWords answers startedTo effectOf someWrites
 computed Bytes Am17xx = search
 computed Bytes Dm648 = search
@@ -103,7 +110,8 @@ sectionsOf x = totals x .now .sections .0
 -- and of the counterexamples, under one opening of the definitions
 record Against : Type 0 where
   after-missing : refusals Bytes (after Bytes (start Bytes Am17xx) (attemptWords abandoned)) (allWords missing) ≡ quiet Bytes (allWords missing)
-  bit-left : eqb (getD (after Bytes (start Bytes Am17xx) (attemptWords abandoned ++ allWords missing) .memory) 0 0) (getD (after Bytes (start Bytes Am17xx) (allWords missing) .memory) 0 0) ≡ false
+  bit-left : eqb (getD (after Bytes (start Bytes Am17xx) (attemptWords abandoned ++ allWords missing) .memory) 0 0)
+      (getD (after Bytes (start Bytes Am17xx) (allWords missing) .memory) 0 0) ≡ false
   awaits-middle : Awaits middle
   level-middle : Level (totals middle)
   middle-tried : refusals Bytes middle (attemptWords nothing) ≡ quiet Bytes (attemptWords nothing)
@@ -114,20 +122,23 @@ record Against : Type 0 where
   awaits-requested : Awaits requested
   rewound-requested : checksum requested ≡ 0
   level-requested : Level (totals requested)
-  total-lost : eqb (sectionsOf (after Bytes requested (attemptWords nothing ++ allWords repeated))) (sectionsOf (after Bytes requested (allWords repeated))) ≡ false
+  total-lost : eqb (sectionsOf (after Bytes requested (attemptWords nothing ++ allWords repeated))) (sectionsOf (after Bytes requested (allWords repeated)))
+      ≡ false
   awaits-unmarked : Awaits unmarked
   rewound-unmarked : checksum unmarked ≡ 0
   settled-unmarked : totals unmarked .asked ≡ false
   unmarked-tried : refusals Bytes unmarked (attemptWords nothing) ≡ quiet Bytes (attemptWords nothing)
   after-unmarked : refusals Bytes (after Bytes unmarked (attemptWords nothing)) (allWords repeated) ≡ quiet Bytes (allWords repeated)
-  mark-lost : eqb (sectionsOf (after Bytes unmarked (attemptWords nothing ++ allWords repeated))) (sectionsOf (after Bytes unmarked (allWords repeated))) ≡ false
+  mark-lost : eqb (sectionsOf (after Bytes unmarked (attemptWords nothing ++ allWords repeated))) (sectionsOf (after Bytes unmarked (allWords repeated)))
+      ≡ false
   awaits-set : Awaits setOnce
   rewound-set : checksum setOnce ≡ 0
   settled-set : totals setOnce .asked ≡ false
   marked-set : totals setOnce .now ≡ totals setOnce .mark
   set-tried : refusals Bytes setOnce (attemptWords nothing) ≡ quiet Bytes (attemptWords nothing)
   after-set : refusals Bytes (after Bytes setOnce (attemptWords nothing)) (allWords repeated) ≡ quiet Bytes (allWords repeated)
-  number-lost : eqb (totals (after Bytes setOnce (attemptWords nothing ++ allWords repeated)) .next) (totals (after Bytes setOnce (allWords repeated)) .next) ≡ false
+  number-lost : eqb (totals (after Bytes setOnce (attemptWords nothing ++ allWords repeated)) .next) (totals (after Bytes setOnce (allWords repeated)) .next)
+      ≡ false
   started-tried : refusals Bytes (started Bytes Am17xx) (attemptWords nothing) ≡ quiet Bytes (attemptWords nothing)
   acknowledged-one : after Bytes (started Bytes Am17xx) (attemptWords nothing ++ []) .session .core .begun ≡ true
   acknowledged-none : after Bytes (started Bytes Am17xx) [] .session .core .begun ≡ false
@@ -137,8 +148,10 @@ record Against : Type 0 where
 against : Against
 unfolding bit join withField within byte number bytesAt put fits fieldFits fieldWritten pick feeding.shifted feeding.fedBit feeding.fed
     feeding.fedWords hasRight inside grantsRange placeFrom placeOf sumOf soundWindow allSound rising goodMap keptOf rows rowServes foundIn
-    lookedUp multiple rangeJudged loadJudged loaded unitOf unitsJudged fieldShape shapeOf tooWide settingDone settingMemory isPast pushed carried isStart unitStep
-    afterCommand awaited acknowledging wordStep openedBy numberingFrom following startTo fed allWords answers middle requested unmarked setOnce startedTo short allSmall
+    lookedUp multiple rangeJudged loadJudged loaded unitOf unitsJudged fieldShape shapeOf tooWide settingDone settingMemory isPast pushed carried isStart
+    unitStep
+    afterCommand awaited acknowledging wordStep openedBy numberingFrom following startTo fed allWords answers middle requested unmarked setOnce startedTo
+    short allSmall
 against = record {
   after-missing = refl;
   bit-left = refl;
@@ -203,7 +216,17 @@ against = record {
 
 -- units lead there from an opening, and the attempts begin just after the start unit and just after an Enable
 reached : (bus : Bus) (dialect : Dialect) (m units : List ℕ) → allSmall m ≡ true → Reached bus (sinceOpening true bus dialect 1 windows m units)
-reached bus dialect m units small = record { numbers = true; dialect = dialect; count = 1; windows = windows; memory = m; sent = units; bytes = bytes-by m small; leads = refl }
+reached bus dialect m units small = record {
+  numbers = true;
+  dialect = dialect;
+  count = 1;
+  windows = windows;
+  memory = m;
+  sent = units;
+  bytes = bytes-by m
+      small;
+  leads = refl;
+}
 
 started-after : (bus : Bus) (dialect : Dialect) → JustAfter bus (started bus dialect)
 unfolding startedTo fed allSmall
@@ -230,7 +253,8 @@ worked bus dialect =
       accepted = record {
         sendable = (abandoned-sendable, repeat-sendable 0x00060403 (lit< tt));
         attempt-accepted = none-refused-by bus (start bus dialect) (allUnits bus (attemptWords abandoned)) (computed bus dialect .tried);
-        following-accepted = none-refused-by bus (after bus (start bus dialect) (attemptWords abandoned)) (allUnits bus (allWords repeated)) (computed bus dialect .after-tried);
+        following-accepted = none-refused-by bus (after bus (start bus dialect) (attemptWords abandoned)) (allUnits bus (allWords repeated))
+            (computed bus dialect .after-tried);
       };
       covered = λ p h. sym (computed bus dialect .same-bits p) ∙ h;
     } in
@@ -253,7 +277,8 @@ one-bit-missed =
       accepted = record {
         sendable = (abandoned-sendable, repeat-sendable 0x00050403 (lit< tt));
         attempt-accepted = none-refused-by Bytes (start Bytes Am17xx) (allUnits Bytes (attemptWords abandoned)) (computed Bytes Am17xx .tried);
-        following-accepted = none-refused-by Bytes (after Bytes (start Bytes Am17xx) (attemptWords abandoned)) (allUnits Bytes (allWords missing)) (against .after-missing);
+        following-accepted = none-refused-by Bytes (after Bytes (start Bytes Am17xx) (attemptWords abandoned)) (allUnits Bytes (allWords missing))
+            (against .after-missing);
       };
       trace = λ none. eqb-false _ _ (against .bit-left) (ap (λ (x : State). getD (x .memory) 0 0) (none .same-state));
     }
@@ -283,7 +308,8 @@ start-over-alone =
       accepted = record {
         sendable = (tt, repeat-sendable 0x00060403 (lit< tt));
         attempt-accepted = none-refused-by Bytes requested (allUnits Bytes (attemptWords nothing)) (against .requested-tried);
-        following-accepted = none-refused-by Bytes (after Bytes requested (attemptWords nothing)) (allUnits Bytes (allWords repeated)) (against .after-requested);
+        following-accepted = none-refused-by Bytes (after Bytes requested (attemptWords nothing)) (allUnits Bytes (allWords repeated))
+            (against .after-requested);
       };
       covered = λ p h. absurd (false≢true h);
       trace = λ none. eqb-false _ _ (against .total-lost) (ap sectionsOf (none .same-state));

@@ -1,5 +1,5 @@
--- Demand 3. An accepted attempt leaves the session as it was, but begun and its totals settled, and only the bits that it wrote; what follows begins with an opcode and writes
--- these bits again, and what is heard of it does not depend on them.
+-- Demand 3. An accepted attempt leaves the session as it was, but begun and its totals settled, and only the bits that it wrote; what follows begins with an
+-- opcode and writes these bits again, and what is heard of it does not depend on them.
 use Prim.Native.Nat.{ℕ, _-_}
 use mathlib.Core.Bool.{Bool, true, false, true≢false}
 use mathlib.Core.List.{List, [], _∷_, _++_, map, append-nil}
@@ -33,9 +33,11 @@ use Rattle.machine.specs.declared.Reply.{Reply}
 use Rattle.machine.specs.declared.Tally.{Tally}
 use Rattle.sent.proofs.Feeding.{answers-append, none-refused-words, units-append, fed-append, Goes, nothing-goes, _then_}
 use Rattle.law_retries.specs.claims.Pieces.{Piece, allWords, AllSendable, Covers, startOverOpcode}
-use Rattle.law_retries.specs.claims.Retries.{after, Begins, Attempt, askingOpcode, attemptWords, attemptsWords, attemptsPieces, Reports, NoTrace, Retried, RetriesLeaveNoTrace, ManyRetriesLeaveNoTrace, RetriesSinceOpening}
+use Rattle.law_retries.specs.claims.Retries.{after, Begins, Attempt, askingOpcode, attemptWords, attemptsWords, attemptsPieces, Reports, NoTrace, Retried}
+use Rattle.law_retries.specs.claims.Retries.{RetriesLeaveNoTrace, ManyRetriesLeaveNoTrace, RetriesSinceOpening}
 use Rattle.law_retries.proofs.Beginnings.{awaits-awaiting, beginnings}
-use Rattle.law_retries.proofs.Several.{talliesOf, memoriesOf, heardAll, begunBy, AllGranted, AllFit, sendable-append, granted-append, memories-append, several-length, written-over, several-go, several-accepted}
+use Rattle.law_retries.proofs.Several.{talliesOf, memoriesOf, heardAll, begunBy, AllGranted, AllFit, sendable-append, granted-append, memories-append}
+use Rattle.law_retries.proofs.Several.{several-length, written-over, several-go, several-accepted}
 use Rattle.law_retries.proofs.Taking.{registerOf, writeOf, Room, tallyOf, awaiting, heardSaid, opcode-goes, request-goes, start-over-goes}
 
 -- the state where an attempt begins
@@ -51,7 +53,8 @@ after-append : (bus : Bus) (x : State) (ws vs : List ℕ) → after bus x (ws ++
 after-append bus x ws vs = ap (fed bus x) (units-append bus ws vs) ∙ fed-append bus x (allUnits bus ws) (allUnits bus vs)
 
 -- what any number of attempts leave: all of them granted, their last state, and totals that settle to the same
-pub record Left (bus : Bus) (windows : List Window) (dialect : Dialect) (on : Bool) (attempts : List Attempt) (begun : Bool) (t : Totals) (m : List ℕ) : Type 0 where
+pub record Left (bus : Bus) (windows : List Window) (dialect : Dialect) (on : Bool) (attempts : List Attempt) (begun : Bool) (t : Totals) (m : List ℕ) : Type
+    0 where
   pub granted : AllGranted windows (attemptsPieces attempts)
   pub later : Bool
   pub last : Totals

@@ -13,19 +13,19 @@ use Rattle.windows.specs.declared.Window.{Window}
 use Rattle.opcodes.specs.declared.Dialect.{Dialect}
 use Rattle.ledger.specs.claims.Attempts.{wrote}
 use Rattle.ledger.specs.declared.Totals.{Totals}
-use Rattle.law_effects.specs.claims.Effects.{writes, becomes, Does}
+use Rattle.law_effects.specs.claims.Effects.{writes, becomes, Does, someWrites}
 use Rattle.law_effects.proofs.Effects.{load-granted, fill-granted, setting-granted, same-bits}
 use Rattle.commands.specs.rules.Commands.{loadJudged, fillJudged, settingJudged}
 use Rattle.sent.specs.rules.Bus.{allUnits}
 use Rattle.sent.specs.rules.Feeding.{State, Heard, NoneRefused}
 use Rattle.words.specs.rules.Bytes.{AreBytes, wordsBytes}
 use Rattle.sent.specs.declared.Bus.{Bus}
-use Rattle.sent.specs.declared.Bus.the-variants.{Bytes}
 use Rattle.machine.specs.declared.Tally.{Tally}
 use Rattle.sent.proofs.Feeding.{none-refused-words, Goes, nothing-goes, words-go}
 use Rattle.machine.proofs.Laws.{data-count}
 use Rattle.machine.proofs.Memory.{if-over, loaded-over, fill-over, setting-over, take-bytes, words-bytes}
-use Rattle.law_retries.specs.claims.Pieces.{Piece, load, fill, setting, wordsOf, allWords, bytesLoaded, Sendable, AllSendable, judgedOf, effectOf, someWrites, Covers}
+use Rattle.law_retries.specs.claims.Pieces.{Piece, load, fill, setting, wordsOf, allWords, bytesLoaded, Sendable, AllSendable, judgedOf, effectOf}
+use Rattle.law_retries.specs.claims.Pieces.{anyWrites, Covers}
 use Rattle.machine.proofs.Granted.{GrantedAt}
 use Rattle.law_retries.proofs.Accepted.{piece-accepted}
 use Rattle.law_retries.proofs.Taking.{writeOf, Room, tallyOf, memoryOf, heardOf, awaiting, piece-goes}
@@ -46,11 +46,6 @@ heardAll bus (c ∷ cs) = heardOf bus c ++ heardAll bus cs
 unfoldable pub begunBy : List Piece → Bool → Bool
 begunBy [] begun = begun
 begunBy (c ∷ cs) begun = begunBy cs true
-
-pub stays-begun : (cs : List Piece) → begunBy cs true ≡ true
-unfolding begunBy
-stays-begun [] = refl
-stays-begun (c ∷ cs) = stays-begun cs
 
 -- all are granted
 unfoldable pub AllGranted : List Window → List Piece → Type 0
@@ -82,7 +77,7 @@ memories-append windows (b ∷ bs) cs m = memories-append windows bs cs (memoryO
 -- what bit p becomes by the last of them that writes it
 unfoldable lastGiven : List Window → List Piece → ℕ → ℕ
 lastGiven windows [] p = 0
-lastGiven windows (c ∷ cs) p = pick (someWrites windows cs p) (lastGiven windows cs p) (becomes (effectOf windows c) p)
+lastGiven windows (c ∷ cs) p = pick (anyWrites windows cs p) (lastGiven windows cs p) (becomes (effectOf windows c) p)
 
 -- choices one inside the other
 pub pick-inside : (w s : Bool) (given became was : ℕ) → pick s given (pick w became was) ≡ pick (w || s) (pick s given became) was
@@ -105,7 +100,8 @@ module _ (windows : List Window) where
   unfolding effectOf
   piece-does m lent (load address size contents) sendable g =
       rw (g .granted)
-      (load-granted windows m lent address (bytesLoaded size contents) (ap (loadJudged windows address) (data-count size contents (sendable .1)) ∙ g .granted) .does)
+      (load-granted windows m lent address (bytesLoaded size contents)
+      (ap (loadJudged windows address) (data-count size contents (sendable .1)) ∙ g .granted) .does)
   piece-does m lent (fill address size kind pattern) sendable g =
       rw (g .granted) (fill-granted windows m lent address size kind pattern (g .granted) .does)
   piece-does m lent (setting word address value delay) sendable g =
@@ -134,14 +130,14 @@ module _ (windows : List Window) where
   several-bytes (c ∷ cs) m are = several-bytes cs (memoryOf windows c m) (piece-bytes m are c)
 
   several-bits : (cs : List Piece) (m : List ℕ) → length m ≡ sumOf windows → AllSendable cs → AllGranted windows cs → (p : ℕ) → p < 8 * length m
-      → bitAt (memoriesOf windows cs m) p ≡ pick (someWrites windows cs p) (lastGiven windows cs p) (bitAt m p)
+      → bitAt (memoriesOf windows cs m) p ≡ pick (anyWrites windows cs p) (lastGiven windows cs p) (bitAt m p)
   unfolding memoriesOf AllSendable AllGranted someWrites lastGiven pick
   several-bits [] m lent s g p h = refl
   several-bits (c ∷ cs) m lent s g p h =
       let does = piece-does m lent c (s .0) (g .0) in
       several-bits cs (memoryOf windows c m) (does .same-length ∙ lent) (s .1) (g .1) p (omega (arith, does .same-length))
-      ∙ ap (λ (n : ℕ). pick (someWrites windows cs p) (lastGiven windows cs p) n) (does .each-bit p h)
-      ∙ pick-inside (writes (effectOf windows c) p) (someWrites windows cs p) _ _ _
+      ∙ ap (λ (n : ℕ). pick (anyWrites windows cs p) (lastGiven windows cs p) n) (does .each-bit p h)
+      ∙ pick-inside (writes (effectOf windows c) p) (anyWrites windows cs p) _ _ _
 
   -- what follows writes over all that others wrote
   pub written-over : (attempt following : List Piece) (m : List ℕ) → length m ≡ sumOf windows → AreBytes m
@@ -154,8 +150,9 @@ module _ (windows : List Window) where
       (several-bytes following _ (several-bytes attempt m are)) (several-bytes following m are)
       (λ p h.
       several-bits following _ (kept ∙ lent) sf gf p (omega (arith, long, h))
-      ∙ ap (λ (n : ℕ). pick (someWrites windows following p) (lastGiven windows following p) n) (several-bits attempt m lent sa ga p (omega (arith, long, kept, h)))
-      ∙ pick-over (someWrites windows attempt p) (someWrites windows following p) _ _ _ (covers p)
+      ∙ ap (λ (n : ℕ). pick (anyWrites windows following p) (lastGiven windows following p) n)
+      (several-bits attempt m lent sa ga p (omega (arith, long, kept, h)))
+      ∙ pick-over (anyWrites windows attempt p) (anyWrites windows following p) _ _ _ (covers p)
       ∙ sym (several-bits following m lent sf gf p (omega (arith, long, kept, h))))
 
   module _ (bus : Bus) (dialect : Dialect) (on : Bool) where

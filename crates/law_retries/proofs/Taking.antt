@@ -29,7 +29,8 @@ use Rattle.opcodes.specs.declared.Refusal.the-variants as refusal
 use Rattle.ledger.specs.claims.Attempts.{Write, section, setting as noSection, wrote}
 use Rattle.ledger.specs.rules.Totals.{wouldPass, isSpent, settled, turned}
 use Rattle.ledger.specs.declared.Totals.{Totals}
-use Rattle.commands.specs.rules.Commands.{loadJudged, fillJudged, settingJudged, loaded, loadFed, fillDone, fillMemory, settingDone, settingMemory, memoryIf}
+use Rattle.commands.specs.rules.Commands.{loadJudged, fillJudged, settingJudged, fillDone, fillMemory, settingDone, settingMemory, memoryIf}
+use Rattle.stores.specs.rules.Stores.{loaded, loadFed}
 use Rattle.commands.proofs.Judging.{unbarred}
 use Rattle.commands.specs.declared.Judged.{Judged}
 use Rattle.commands.specs.declared.Judged.the-variants.{Granted}
@@ -38,7 +39,8 @@ use Rattle.commands.specs.declared.Wrote.{Wrote}
 use Rattle.sent.specs.rules.Bus.{unitsInWord, startUnit, unitsOf, allUnits, firstUnit}
 use Rattle.sent.specs.rules.Feeding.{State, Heard, NoneRefused}
 use Rattle.sent.specs.claims.Lift.{atWord, silent, Ready}
-use Rattle.machine.specs.rules.Machine.{WordOutcome, tallied, quiet, _leaving_, noneKept, keeping, dataBytes, awaited, counting, loadBegun, after, performed, begun, acknowledging, opening}
+use Rattle.machine.specs.rules.Machine.{WordOutcome, tallied, quiet, _leaving_, noneKept, keeping, dataBytes, awaited, overflowing, outOfNumbers, loadBegun}
+use Rattle.machine.specs.rules.Machine.{after, performed, begun, acknowledging, opening}
 use Rattle.machine.specs.rules.Replies.{silence, oneWord, wordThen, acknowledged}
 use Rattle.machine.specs.claims.Words.{afterWords, asking, doneAtLast}
 use Rattle.sent.specs.declared.Bus.{Bus}
@@ -53,7 +55,8 @@ use Rattle.machine.proofs.ByTheTable.{by-the-table, word-kept, word-last, opcod
 use Rattle.sent.proofs.Feeding.{none-refused-append, Goes, nothing-goes, _then_, reaching, words-go}
 use Rattle.machine.proofs.Laws.{unwritten, same-words, data-length, data-step, load-in-pieces}
 use Rattle.sent.proofs.Lift.{accepted-goes, word-accepted}
-use Rattle.law_retries.specs.claims.Pieces.{Piece, load, fill, setting, wordsOf, bytesLoaded, AreWords, Sendable, judgedOf, loadOpcode, fillOpcode, settingOpcode, enableOpcode, requestOpcode, startOverOpcode}
+use Rattle.law_retries.specs.claims.Pieces.{Piece, load, fill, setting, wordsOf, bytesLoaded, AreWords, Sendable, judgedOf, loadOpcode, fillOpcode}
+use Rattle.law_retries.specs.claims.Pieces.{settingOpcode, enableOpcode, requestOpcode, startOverOpcode}
 
 -- a running session's core
 abbrev pub running : List Window → Dialect → Bool → Bool → Tally → Phase → Core
@@ -210,7 +213,8 @@ module _ (bus : Bus) (windows : List Window) (dialect : Dialect) (on : Bool) whe
     core = running windows dialect on true tally phase.Opcode
 
     -- the argument words that are left
-    arguments-go : (kept : Kept) (word : ℕ) (rest : List ℕ) → AreWords (word ∷ rest) → {reply : Reply} {event : Event} {k : Core} {wrote : Wrote} {left : List ℕ}
+    arguments-go : (kept : Kept) (word : ℕ) (rest : List ℕ) → AreWords (word ∷ rest)
+        → {reply : Reply} {event : Event} {k : Core} {wrote : Wrote} {left : List ℕ}
         → doneAtLast c core m kept word rest ≡ accepted reply event k wrote left
         → Goes bus (atWord (asking core c (suc (length rest)) kept) m) (allUnits bus (word ∷ rest)) (atWord k left) (heardThen bus rest reply event)
     unfolding doneAtLast heardThen
@@ -246,7 +250,8 @@ module _ (bus : Bus) (windows : List Window) (dialect : Dialect) (on : Bool) whe
     opcode-ready opcode apart = record { running = refl; lent = lent; small = apart .small; plain = λ e. no-start bus apart }
 
     -- one that has no words
-    pub opcode-goes : (opcode : ℕ) (c : Command) → Apart opcode → lookedUp opcode Sent dialect ≡ Known c 0 → {reply : Reply} {event : Event} {k : Core} {wrote : Wrote} {left : List ℕ}
+    pub opcode-goes : (opcode : ℕ) (c : Command) → Apart opcode → lookedUp opcode Sent dialect ≡ Known c 0
+        → {reply : Reply} {event : Event} {k : Core} {wrote : Wrote} {left : List ℕ}
         → opening opcode (performed c (taken c) m noneKept 0) ≡ accepted reply event k wrote left
         → Goes bus (awaiting windows dialect on begun tally m) (unitsOf bus opcode) (atWord k left) (heardSaid bus reply event)
     unfolding afterWords
@@ -290,7 +295,8 @@ module _ (bus : Bus) (windows : List Window) (dialect : Dialect) (on : Bool) whe
         opcode-goes startOverOpcode command.StartOver (record { small = lit< tt; no-byte = refl; no-half = refl }) (start-over-row dialect) refl
 
     -- a load that is granted at its size word, and its data
-    module _ (address size place : ℕ) (granted : counting (taken command.Load) size (loadJudged windows address size) ≡ Granted place) where
+    module _ (address size place : ℕ) (granted : outOfNumbers (taken command.Load) (overflowing (taken command.Load) size (loadJudged windows address size))
+        ≡ Granted place) where
       abbrev loading : Core
       loading =
           running windows dialect on true
@@ -321,7 +327,8 @@ module _ (bus : Bus) (windows : List Window) (dialect : Dialect) (on : Bool) whe
         (awaiting windows dialect on true (tallyOf dialect on c tally) (memoryOf windows c m)) (heardOf bus c)
     unfolding pick doneAtLast after fillDone fillMemory settingDone settingMemory
     piece-goes (load address size contents) sendable {place} granted fits =
-        let judged : counting (taken command.Load) size (loadJudged windows address size) ≡ Granted place = unbarred _ _ _ (fits .1) ∙ unbarred _ _ _ (fits .0) ∙ granted in
+        let judged : outOfNumbers (taken command.Load) (overflowing (taken command.Load) size (loadJudged windows address size)) ≡ Granted place = unbarred _
+        _ _ (fits .1) ∙ unbarred _ _ _ (fits .0) ∙ granted in
         rw granted
         (words-go (loadOpcode ∷ address ∷ size ∷ []) contents (load-begins address size place judged (sendable .0 .1 .0) (sendable .0 .1 .1 .0))
         (reaching

@@ -1,12 +1,13 @@
--- An attempt leaves no total and no number behind: its first opcode settles what it finds, so that the mark is what stood where it began, and nothing up to its Start-Over
--- moves the mark.
+-- An attempt leaves no total and no number behind: its first opcode settles what it finds, so that the mark is what stood where it began, and nothing up to its
+-- Start-Over moves the mark.
 use mathlib.Core.Bool.{Bool, true, false}
 use mathlib.Core.List.{List, [], _∷_}
 use mathlib.Core.Path.{_≡_, refl, sym, ap, _∙_}
 use Rattle.words.specs.rules.Choice.{pick}
 use Rattle.opcodes.specs.declared.Dialect.{Dialect}
 use Rattle.ledger.specs.rules.Totals.{counted, following, numbered, settled, asking, putBack}
-use Rattle.ledger.specs.claims.Attempts.{Write, section, setting, wrote, wroteAll, abandoned, Level, alone, NoTotalLeft, LevelThere, SettingIsNotLevel, AloneTakesBack}
+use Rattle.ledger.specs.claims.Attempts.{Write, section, setting, wrote, wroteAll, abandoned, Level, alone, NoTotalLeft, LevelThere, SettingIsNotLevel}
+use Rattle.ledger.specs.claims.Attempts.{AloneTakesBack}
 use Rattle.ledger.specs.declared.Totals.{Totals}
 use Rattle.ledger.proofs.Laws.{stays, settled-asks-nothing, settled-once, counted-keeps, put-back-counted, put-back-numbered, put-back-asking}
 

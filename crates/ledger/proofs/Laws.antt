@@ -14,7 +14,8 @@ use Rattle.opcodes.specs.declared.Command.{Command}
 use Rattle.opcodes.specs.declared.Command.the-variants as command
 use Rattle.opcodes.specs.declared.Dialect.{Dialect}
 use Rattle.opcodes.specs.declared.Dialect.the-variants.{Am17xx, Dm648}
-use Rattle.ledger.specs.rules.Totals.{standing, numberedAs, most, isPast, isOther, oneMore, counted, following, numbered, marked, settled, asking, putBack, turned, wouldPass}
+use Rattle.ledger.specs.rules.Totals.{standing, numberedAs, most, isPast, isOther, oneMore, counted, following, numbered, marked, settled, asking}
+use Rattle.ledger.specs.rules.Totals.{putBack, turned, wouldPass}
 use Rattle.ledger.specs.claims.Agreement.{CountsOn, NamesThem, NumbersOn, added, plus}
 use Rattle.ledger.specs.declared.Standing.{Standing}
 use Rattle.ledger.specs.declared.Totals.{Totals}
@@ -68,22 +69,6 @@ put-back-numbered t = refl
 pub put-back-asking : (t : Totals) → putBack (asking t) ≡ putBack t
 put-back-asking t = refl
 
-pub put-back-marked : (t : Totals) → putBack (marked t) ≡ marked t
-put-back-marked t = refl
-
--- any opcode but Start-Over does to settled totals what it does to the totals
-pub turned-settled : (c : Command) (t : Totals) → (c ≡ command.StartOver → ⊥) → turned c (settled t) ≡ turned c t
-turned-settled command.Load t other = settled-once t
-turned-settled command.Fill t other = settled-once t
-turned-settled command.BootTable t other = settled-once t
-turned-settled command.Enable t other = marked-settled t
-turned-settled command.Disable t other = settled-once t
-turned-settled command.Request t other = ap asking (settled-once t)
-turned-settled command.StartOver t other = absurd (other refl)
-turned-settled command.JumpAndClose t other = settled-once t
-turned-settled command.Ping t other = settled-once t
-turned-settled command.SequentialRead t other = settled-once t
-
 -- what an opcode makes of the numbers goes by them alone
 settled-numbers : (a by : Totals) → settled (numberedAs a by) ≡ numberedAs (settled (numberedAs a by)) (settled by)
 settled-numbers a by =
@@ -102,10 +87,6 @@ turned-numbers command.StartOver a by = refl
 turned-numbers command.JumpAndClose a by = settled-numbers a by
 turned-numbers command.Ping a by = settled-numbers a by
 turned-numbers command.SequentialRead a by = settled-numbers a by
-
--- an Enable marks, and settling before it makes no difference
-pub enable-settles : (t : Totals) → turned command.Enable t ≡ marked (settled t)
-enable-settles t = sym (marked-settled t)
 
 -- one more section in whole numbers
 pub counts-on : CountsOn

@@ -1,6 +1,7 @@
 // The running totals of a session and the numbers of its commands, their mark, and the Request that waits to be settled.
 ghost use mathlib.Core.Path.{_≡_};
-ghost use Rattle.ledger.specs.rules.Totals.{nothing, atOpening, fromOne, isPast, wouldPass, isOther, differs, oneMore, withNow, counted, isSpent, following, numbered, marked, settled, asking, putBack, turned, inFlash};
+ghost use Rattle.ledger.specs.rules.Totals.{nothing, atOpening, fromOne, isPast, wouldPass, isOther, differs, oneMore, withNow, counted, isSpent};
+ghost use Rattle.ledger.specs.rules.Totals.{following, numbered, marked, settled, asking, putBack, turned, inFlash};
 use opcodes::Command;
 use opcodes::Dialect;
 
@@ -16,8 +17,8 @@ pub struct Standing {
     pub bytes: Bytes,
 }
 
-// What stands now and what stood at the mark; `asked` while a Request stands unsettled. `next` is the number of the next command, `back` what it was at the mark; both are 0 where
-// no numbers are kept.
+// What stands now and what stood at the mark; `asked` while a Request stands unsettled. `next` is the number of the next command, `back` what it was at the
+// mark; both are 0 where no numbers are kept.
 pub struct Totals {
     pub now: Standing,
     pub mark: Standing,

@@ -13,7 +13,8 @@ use Rattle.opcodes.specs.declared.Command.{Command}
 use Rattle.opcodes.specs.declared.Found.{Found}
 use Rattle.opcodes.specs.declared.Found.the-variants.{Known}
 use Rattle.opcodes.specs.declared.Mode.the-variants.{Sent}
-use Rattle.machine.specs.rules.Machine.{WordOutcome, said, quiet, _leaving_, noneKept, keeping, performed, toward, begun, acknowledging, opening, atOpcode, inPhase, wordStep}
+use Rattle.machine.specs.rules.Machine.{WordOutcome, said, quiet, _leaving_, noneKept, keeping, performed, toward, begun, acknowledging, opening}
+use Rattle.machine.specs.rules.Machine.{atOpcode, inPhase, wordStep}
 use Rattle.machine.specs.rules.Replies.{oneWord, wordThen, acknowledged}
 use Rattle.machine.specs.claims.Words.{afterWords, keptAfter, asking, doneAtLast, doneWith, ByTheTable}
 use Rattle.machine.specs.declared.Core.{Core}

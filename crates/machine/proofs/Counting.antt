@@ -1,5 +1,5 @@
--- What the totals come to, word by word: only the size word of a load and the last word of a fill count, only Start-Over takes back, only a Jump & Close compares,
--- and none of this touches anything else in AM17xx. By cases over the commands, then over the phases, the tests of a unit and the words or units.
+-- What the totals come to, word by word: only the size word of a load and the last word of a fill count, only Start-Over takes back, only a Jump & Close
+-- compares, and none of this touches anything else in AM17xx. By cases over the commands, then over the phases, the tests of a unit and the words or units.
 use Prim.Native.Nat.{ℕ, _-_}
 use mathlib.Core.Bool.{Bool, true, false}
 use mathlib.Core.List.{List, [], _∷_}
@@ -38,7 +38,9 @@ use Rattle.commands.specs.declared.Judged.the-variants.{Granted, Refused}
 use Rattle.commands.specs.declared.Wrote.{Wrote}
 use Rattle.commands.proofs.Judging.{granted-before, load-passes, fill-passes}
 use Rattle.machine.specs.claims.Counting.{WordsCount, sizeOf, keptBefore, sizesAt, NoRetry, sizesOf, Entering}
-use Rattle.machine.specs.rules.Machine.{WordOutcome, tallied, quiet, writing, _leaving_, noneKept, countedOn, after, entered, numbering, counting, loadBegun, closeAddress, closeJudged, performed, toward, begun, acknowledging, opening, atOpcode, inPhase, wordStep}
+use Rattle.machine.specs.rules.Machine.{WordOutcome, tallied, quiet, writing, _leaving_, noneKept, countedOn, after, entered, outOfNumbers, overflowing}
+use Rattle.machine.specs.rules.Machine.{loadBegun, closeAddress, closeJudged, performed, toward, begun, acknowledging, opening, atOpcode, inPhase}
+use Rattle.machine.specs.rules.Machine.{wordStep}
 use Rattle.machine.specs.rules.Replies.{oneWord, farewell}
 use Rattle.machine.specs.claims.Words.{afterWords}
 use Rattle.machine.specs.declared.Core.{Core}
@@ -94,7 +96,8 @@ turned-now command.Ping t other = settled-now t
 turned-now command.SequentialRead t other = settled-now t
 
 -- a choice of two outcomes
-pick-now : (t : Bool) (a b : WordOutcome) (now : Standing) (sizes : List ℕ) → (a .answer .refusal ≡ refusal.None → nowOf a ≡ plus now sizes) → nowOf b ≡ plus now []
+pick-now : (t : Bool) (a b : WordOutcome) (now : Standing) (sizes : List ℕ) → (a .answer .refusal ≡ refusal.None → nowOf a ≡ plus now sizes)
+    → nowOf b ≡ plus now []
     → pick t a b .answer .refusal ≡ refusal.None → nowOf (pick t a b) ≡ plus now (pick t sizes [])
 unfolding pick
 pick-now true a b now sizes held failed e = held e
@@ -140,7 +143,8 @@ module _ (k : Core) (m : List ℕ) (dm : k .dialect ≡ Dm648) where
       → nowOf (performed command.Load k m kept word) ≡ plus now (word ∷ [])
   load-now kept word e =
       let judged : Judged = loadJudged (k .windows) (kept .third) word in
-      let g = load-not-refused k (kept .third) word (counting k word judged) (section-numbered k word judged (load-passes _ numbers (k .windows) (kept .third) word)) e in
+      let g = load-not-refused k (kept .third) word (outOfNumbers k (overflowing k word judged))
+      (section-numbered k word judged (load-passes _ numbers (k .windows) (kept .third) word)) e in
       ap (λ (j : Judged). loadBegun k (kept .third) word j .core .tally .totals .now) (g .granted)
       ∙ plus-one (k .dialect) (k .tally .totals) word dm (section-counts k word judged (g .place) (g .granted) .fits)
 
@@ -150,10 +154,11 @@ module _ (k : Core) (m : List ℕ) (dm : k .dialect ≡ Dm648) where
   fill-now kept word e =
       let judged : Judged = fillJudged (k .windows) (kept .first) (kept .second) (kept .third) in
       let g =
-      done-not-refused k (countedOn k (kept .second)) (counting k (kept .second) judged) _ _ _
+      done-not-refused k (countedOn k (kept .second)) (outOfNumbers k (overflowing k (kept .second) judged)) _ _ _
       (section-numbered k (kept .second) judged (fill-passes _ numbers (k .windows) (kept .first) (kept .second) (kept .third))) e in
       ap
-      (λ (j : Judged). after k (countedOn k (kept .second)) (fillDone j (k .on) (k .tally .checksum) (kept .first) (kept .second) (kept .third) word) .core .tally
+      (λ (j : Judged). after k (countedOn k (kept .second))
+      (fillDone j (k .on) (k .tally .checksum) (kept .first) (kept .second) (kept .third) word) .core .tally
       .totals .now)
       (g .granted)
       ∙ plus-one (k .dialect) (k .tally .totals) (kept .second) dm (section-counts k (kept .second) judged (g .place) (g .granted) .fits)
@@ -236,12 +241,12 @@ closes : (c : Command) (k : Core) (m : List ℕ) (kept : Kept) (word entry : ℕ
     → c ≡ command.JumpAndClose
 unfolding fillDone settingDone
 closes command.Load k m kept word entry e =
-    absurd (no-event (load-silent k (kept .third) word (counting k word (loadJudged (k .windows) (kept .third) word))) e)
+    absurd (no-event (load-silent k (kept .third) word (outOfNumbers k (overflowing k word (loadJudged (k .windows) (kept .third) word)))) e)
 closes command.Fill k m kept word entry e =
-    let judged : Judged = counting k (kept .second) (fillJudged (k .windows) (kept .first) (kept .second) (kept .third)) in
+    let judged : Judged = outOfNumbers k (overflowing k (kept .second) (fillJudged (k .windows) (kept .first) (kept .second) (kept .third))) in
     absurd (no-event refl (done-enters k (countedOn k (kept .second)) judged (k .tally .checksum) event.Nothing _ entry e .1))
 closes command.BootTable k m kept word entry e =
-    let judged : Judged = numbering k (settingJudged (k .windows) (kept .first) (kept .second) (kept .third)) in
+    let judged : Judged = outOfNumbers k (settingJudged (k .windows) (kept .first) (kept .second) (kept .third)) in
     absurd (no-wait (done-enters k (numbered (k .tally .totals)) judged (k .tally .checksum) (event.Wait word) _ entry e .1))
 closes command.Enable k m kept word entry e = absurd (no-event refl e)
 closes command.Disable k m kept word entry e = absurd (no-event refl e)
@@ -263,7 +268,8 @@ close-named k m kept word entry e =
     let address : ℕ = closeAddress (k .dialect) kept word in
     let named : Standing = standing (kept .third) word in
     let r : ℕ = k .tally .checksum in
-    let g = done-enters k (k .tally .totals) (closeJudged k kept word) r (event.Enter address) r entry (sym (entered-event (after k (k .tally .totals) (closeDone (closeJudged k kept word) r address))) ∙ e) .0 in
+    let g = done-enters k (k .tally .totals) (closeJudged k address (standing (kept .third) word)) r (event.Enter address) r entry
+    (sym (entered-event (after k (k .tally .totals) (closeDone (closeJudged k address (standing (kept .third) word)) r address))) ∙ e) .0 in
     let same =
     granted-before (differs (k .dialect) (k .tally .totals) named) refusal.Totals (entryJudged (k .windows) address) (g .place) (g .granted) .0 in
     record {
@@ -298,7 +304,8 @@ opcode-never k m word entry Retired known e = no-event refl e
 opcode-never k m word entry (Known c words) known e =
     let o : WordOutcome = toward c words (begun c k) m noneKept 0 in
     let named = toward-named c words (begun c k) m noneKept 0 entry (sym (ack-event word (o .answer)) ∙ e) in
-    close-words (k .dialect) words (subst (λ (x : Command). rowIs Sent (k .dialect) x words ≡ true) (named .0) (row-is Sent (k .dialect) word c words known)) (named .1)
+    close-words (k .dialect) words (subst (λ (x : Command). rowIs Sent (k .dialect) x words ≡ true) (named .0) (row-is Sent (k .dialect) word c words known))
+    (named .1)
 
 phase-named : (p : Phase) (k : Core) (m : List ℕ) (word entry : ℕ) → inPhase p k m word .answer .event ≡ event.Enter entry
     → Named k (keptBefore p) word (inPhase p k m word)
@@ -316,7 +323,8 @@ word-enters k m word entry e =
 -- AM17xx: a command counts nothing
 performed-zero : (c : Command) (k : Core) (m : List ℕ) (kept : Kept) (word : ℕ) → k .dialect ≡ Am17xx → Zero (k .tally .totals)
     → Zero (performed c k m kept word .answer .core .tally .totals)
-performed-zero command.Load k m kept word am zero = load-zero k (kept .third) word (counting k word (loadJudged (k .windows) (kept .third) word)) am zero
+performed-zero command.Load k m kept word am zero = load-zero k (kept .third) word
+    (outOfNumbers k (overflowing k word (loadJudged (k .windows) (kept .third) word))) am zero
 performed-zero command.Fill k m kept word am zero = after-totals Zero k _ _ (zero-counted k (kept .second) am zero) zero
 performed-zero command.BootTable k m kept word am zero = after-totals Zero k _ _ zero zero
 performed-zero command.Enable k m kept word am zero = zero
@@ -332,14 +340,16 @@ toward-zero : (c : Command) (left : ℕ) (k : Core) (m : List ℕ) (kept : Kept)
 toward-zero c left k m kept word am zero =
     of-choice (λ (o : WordOutcome). Zero (o .answer .core .tally .totals)) (eqb left 0) (λ h. performed-zero c k m kept word am zero) (λ h. zero)
 
-opcode-zero : (k : Core) (m : List ℕ) (word : ℕ) (f : Found) → k .dialect ≡ Am17xx → Zero (k .tally .totals) → Zero (atOpcode k m word f .answer .core .tally .totals)
+opcode-zero : (k : Core) (m : List ℕ) (word : ℕ) (f : Found) → k .dialect ≡ Am17xx → Zero (k .tally .totals)
+    → Zero (atOpcode k m word f .answer .core .tally .totals)
 opcode-zero k m word Unknown am zero = zero
 opcode-zero k m word Retired am zero = zero
 opcode-zero k m word (Known c words) am zero =
     subst Zero (sym (ap (λ (x : Core). x .tally .totals) (ack-core word _)))
     (toward-zero c words (begun c k) m noneKept 0 am (stays-zero .turning (k .tally .totals) c zero))
 
-pub phase-zero : (p : Phase) (k : Core) (m : List ℕ) (word : ℕ) → k .dialect ≡ Am17xx → Zero (k .tally .totals) → Zero (inPhase p k m word .answer .core .tally .totals)
+pub phase-zero : (p : Phase) (k : Core) (m : List ℕ) (word : ℕ) → k .dialect ≡ Am17xx → Zero (k .tally .totals)
+    → Zero (inPhase p k m word .answer .core .tally .totals)
 phase-zero phase.Opcode k m word am zero = opcode-zero k m word (lookedUp word Sent (k .dialect)) am zero
 phase-zero (phase.Argument c left kept) k m word am zero = toward-zero c (left - 1) k m kept word am zero
 phase-zero (phase.Data end left) k m word am zero = zero
@@ -411,7 +421,8 @@ module _ (k : Core) (a b by : Totals) where
 
   module _ (m : List ℕ) (kept : Kept) (word : ℕ) where
     performed-alike : (c : Command) → bare (performed c one m kept word) ≡ bare (performed c two m kept word)
-    performed-alike command.Load = ap (λ (x : Taken). x leaving m) (load-alike (kept .third) word (counting one word (loadJudged (k .windows) (kept .third) word)))
+    performed-alike command.Load = ap (λ (x : Taken). x leaving m)
+        (load-alike (kept .third) word (outOfNumbers one (overflowing one word (loadJudged (k .windows) (kept .third) word))))
     performed-alike command.Fill =
         ap (λ (x : Taken). x leaving performed command.Fill one m kept word .memory) (written-alike _ a b (numbered by) _)
     performed-alike command.BootTable =

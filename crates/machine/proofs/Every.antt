@@ -27,7 +27,8 @@ use Rattle.commands.specs.declared.Judged.{Judged}
 use Rattle.commands.specs.declared.Judged.the-variants.{Granted, Refused}
 use Rattle.commands.specs.declared.Wrote.{Wrote}
 use Rattle.machine.specs.claims.Every.{EveryWord}
-use Rattle.machine.specs.rules.Machine.{WordOutcome, changed, stop, refused, writing, _leaving_, noneKept, numbering, counting, loadBegun, after, entered, performed, toward, begun, acknowledging, opening, atOpcode, inPhase, wordStep}
+use Rattle.machine.specs.rules.Machine.{WordOutcome, changed, stop, refused, writing, _leaving_, noneKept, outOfNumbers, overflowing, loadBegun, after}
+use Rattle.machine.specs.rules.Machine.{entered, performed, toward, begun, acknowledging, opening, atOpcode, inPhase, wordStep}
 use Rattle.machine.specs.rules.Replies.{silence, oneWord, wordThen, acknowledged, doneWord, farewell}
 use Rattle.machine.specs.declared.Core.{Core}
 use Rattle.machine.specs.declared.Kept.{Kept}
@@ -107,13 +108,13 @@ kept-if (Refused q) checksum told fed writing m h = refl
 fill-keeps : (k : Core) (m : List ℕ) (kept : Kept) (word : ℕ) → Keeps k m (performed command.Fill k m kept word)
 unfolding fillDone fillMemory
 fill-keeps k m kept word =
-    let judged : Judged = counting k (kept .second) (fillJudged (k .windows) (kept .first) (kept .second) (kept .third)) in
+    let judged : Judged = outOfNumbers k (overflowing k (kept .second) (fillJudged (k .windows) (kept .first) (kept .second) (kept .third))) in
     done-keeps k m _ _ _ (fill-over judged m (kept .second) (kept .third) word) (kept-if judged _ _ _ _ m)
 
 setting-keeps : (k : Core) (m : List ℕ) (kept : Kept) (word : ℕ) → Keeps k m (performed command.BootTable k m kept word)
 unfolding settingDone settingMemory
 setting-keeps k m kept word =
-    let judged : Judged = numbering k (settingJudged (k .windows) (kept .first) (kept .second) (kept .third)) in
+    let judged : Judged = outOfNumbers k (settingJudged (k .windows) (kept .first) (kept .second) (kept .third)) in
     done-keeps k m _ _ _ (setting-over judged m (kept .first) (kept .third)) (kept-if judged _ _ _ _ m)
 
 -- a command that writes nothing
@@ -142,7 +143,8 @@ entered-keeps k m t keeps =
     (λ h. keeps)
 
 performed-keeps : (c : Command) (k : Core) (m : List ℕ) (kept : Kept) (word : ℕ) → Keeps k m (performed c k m kept word)
-performed-keeps command.Load k m kept word = load-keeps k m (kept .third) word (counting k word (loadJudged (k .windows) (kept .third) word))
+performed-keeps command.Load k m kept word = load-keeps k m (kept .third) word
+    (outOfNumbers k (overflowing k word (loadJudged (k .windows) (kept .third) word)))
 performed-keeps command.Fill k m kept word = fill-keeps k m kept word
 performed-keeps command.BootTable k m kept word = setting-keeps k m kept word
 performed-keeps command.Enable k m kept word = accepting none-said untouched
@@ -159,7 +161,8 @@ toward-keeps c left k m kept word =
 
 -- an acknowledgement comes before what else is said
 acknowledged-keeps : (opcode : ℕ) (k : Core) (m left : List ℕ) (t : Taken) → codeOf (t .refusal) ≡ 0 → Keeps k m (t leaving left)
-    → Keeps k m (record { refusal = t .refusal; reply = wordThen (acknowledged opcode) (t .reply); event = t .event; core = t .core; wrote = t .wrote } leaving left)
+    → Keeps k m (record { refusal = t .refusal; reply = wordThen (acknowledged opcode) (t .reply); event = t .event; core = t .core; wrote = t .wrote }
+    leaving left)
 acknowledged-keeps opcode k m left t accepted keeps =
     record {
       windows = keeps .windows;
@@ -177,7 +180,8 @@ opening-keeps opcode k m o keeps =
     (λ h. acknowledged-keeps opcode k m (o .memory) (o .answer) (eqb-true _ _ h) keeps) (λ h. keeps)
 
 -- a word, from what its command keeps of a core with the same windows and dialect that has begun where this one has
-from-keeps : (k first : Core) (m : List ℕ) (o : WordOutcome) → first .windows ≡ k .windows → first .dialect ≡ k .dialect → (k .begun ≡ true → first .begun ≡ true)
+from-keeps : (k first : Core) (m : List ℕ) (o : WordOutcome) → first .windows ≡ k .windows → first .dialect ≡ k .dialect
+    → (k .begun ≡ true → first .begun ≡ true)
     → (k .stage .phase ≡ phase.Opcode → o .answer .core .begun ≡ false → o .answer .core ≡ stop k) → Keeps first m o → EveryWord k m o
 from-keeps k first m o windows dialect since unbegun keeps =
     record {

@@ -16,7 +16,7 @@ use Rattle.commands.specs.rules.Commands.{doneIf, barred}
 use Rattle.commands.specs.declared.Judged.{Judged}
 use Rattle.commands.specs.declared.Judged.the-variants.{Granted, Refused}
 use Rattle.commands.proofs.Judging.{EachRefusal, Passes, barred-passes, granted-before}
-use Rattle.machine.specs.rules.Machine.{after, numbering, counting, loadBegun}
+use Rattle.machine.specs.rules.Machine.{after, outOfNumbers, overflowing, loadBegun}
 use Rattle.machine.specs.declared.Core.{Core}
 use Rattle.machine.specs.declared.Taken.{Taken}
 
@@ -40,10 +40,10 @@ numbers =
     }
 
 -- 25 is one, and 18
-pub last-numbered : (k : Core) (judged : Judged) → Numbered judged → Numbered (numbering k judged)
+pub last-numbered : (k : Core) (judged : Judged) → Numbered judged → Numbered (outOfNumbers k judged)
 last-numbered k judged h = barred-passes (λ (q : Refusal). codeOf q ≢ 0) _ refusal.Number judged (eqb-false 25 0 refl) h
 
-pub section-numbered : (k : Core) (size : ℕ) (judged : Judged) → Numbered judged → Numbered (counting k size judged)
+pub section-numbered : (k : Core) (size : ℕ) (judged : Judged) → Numbered judged → Numbered (outOfNumbers k (overflowing k size judged))
 section-numbered k size judged h =
     let passes : Bool = wouldPass (k .dialect) (k .tally .totals) size in
     last-numbered k (barred passes refusal.Overflow judged)
@@ -55,7 +55,8 @@ pub record Counts (k : Core) (size : ℕ) (judged : Judged) (place : ℕ) : Type
   pub fits : wouldPass (k .dialect) (k .tally .totals) size ≡ false
   pub unspent : isSpent (k .tally .totals) ≡ false
 
-pub section-counts : (k : Core) (size : ℕ) (judged : Judged) (place : ℕ) → counting k size judged ≡ Granted place → Counts k size judged place
+pub section-counts : (k : Core) (size : ℕ) (judged : Judged) (place : ℕ) → outOfNumbers k (overflowing k size judged) ≡ Granted place
+    → Counts k size judged place
 section-counts k size judged place e =
     let last = granted-before (isSpent (k .tally .totals)) refusal.Number _ place e in
     let first = granted-before (wouldPass (k .dialect) (k .tally .totals) size) refusal.Overflow judged place (last .1) in

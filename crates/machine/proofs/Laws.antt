@@ -1,4 +1,5 @@
--- A load sent in pieces does what the whole load does in flash mode, word by word: a data word writes and feeds the next bytes of the load, and what the later words write and feed goes on from there.
+-- A load sent in pieces does what the whole load does in flash mode, word by word: a data word writes and feeds the next bytes of the load, and what the later
+-- words write and feed goes on from there.
 use Prim.Native.Nat.{ℕ, zero, suc, _+_, _-_, _*_, _/_, _%_, _<_, min}
 use mathlib.Core.Bool.{Bool, true, false}
 use mathlib.Core.List.{List, [], _∷_, _++_}
@@ -15,13 +16,15 @@ use Rattle.words.proofs.Choice.{chosen, passed}
 use Rattle.words.proofs.WrittenBits.{bit-byte, bit-number}
 use Rattle.checksum.specs.rules.Checksum.{fedBit, fed, fedWords}
 use Rattle.opcodes.specs.declared.Command.the-variants as command
-use Rattle.commands.specs.rules.Commands.{loadJudged, loaded, wordsFed, loadFed}
-use Rattle.commands.proofs.Loading.{loaded-append}
+use Rattle.commands.specs.rules.Commands.{loadJudged}
+use Rattle.stores.specs.rules.Stores.{loaded, wordsFed, loadFed}
+use Rattle.stores.proofs.Loading.{loaded-append}
 use Rattle.commands.specs.rules.Wrote.{noneWrote, bytesWrote}
 use Rattle.commands.specs.declared.Judged.{Judged}
 use Rattle.commands.specs.declared.Judged.the-variants.{Granted}
 use Rattle.commands.specs.declared.Wrote.{Wrote}
-use Rattle.machine.specs.rules.Machine.{WordOutcome, tallied, await, withChecksum, countedOn, quiet, writing, _leaving_, awaited, counting, loadBegun, dataBytes, performed, inPhase, wordStep}
+use Rattle.machine.specs.rules.Machine.{WordOutcome, tallied, await, withChecksum, countedOn, quiet, writing, _leaving_, awaited, overflowing}
+use Rattle.machine.specs.rules.Machine.{outOfNumbers, loadBegun, dataBytes, performed, inPhase, wordStep}
 use Rattle.machine.specs.claims.Words.{afterWords}
 use Rattle.machine.specs.declared.Core.{Core}
 use Rattle.machine.specs.declared.Kept.{Kept}
@@ -163,10 +166,11 @@ load-fed false r address n bytes e = refl
 
 -- a load that is granted at its size word, with its data: to checksum, totals and memory it does what the whole load does
 pub load-in-pieces : (k : Core) (m : List ℕ) (kept : Kept) (size place : ℕ) (ws : List ℕ)
-    → counting k size (loadJudged (k .windows) (kept .third) size) ≡ Granted place → length ws ≡ (size + 3) / 4
+    → outOfNumbers k (overflowing k size (loadJudged (k .windows) (kept .third) size)) ≡ Granted place → length ws ≡ (size + 3) / 4
     → unwritten (afterWords (performed command.Load k m kept size) ws)
     ≡ quiet
-    (await k (tallied (pick (k .on) (loadFed (k .tally .checksum) (kept .third) (take size (wordsBytes ws))) (k .tally .checksum)) (countedOn k size)) phase.Opcode)
+    (await k (tallied (pick (k .on) (loadFed (k .tally .checksum) (kept .third) (take size (wordsBytes ws))) (k .tally .checksum)) (countedOn k size))
+    phase.Opcode)
     leaving loaded m place (take size (wordsBytes ws))
 load-in-pieces k m kept size place ws granted whole =
     let address : ℕ = kept .third in

@@ -8,7 +8,8 @@ use lib.ListN.{length, set, take}
 use Rattle.words.specs.rules.Bytes.{wordsBytes, byte, put, sizeOf, fieldWritten}
 use Rattle.words.proofs.Choice.{of-choice}
 use Rattle.words.proofs.Puts.{length-put}
-use Rattle.commands.specs.rules.Commands.{memoryIf, loaded, unitOf, filled, typeFilled, fillMemory, shapeOf, shapeSet, settingMemory}
+use Rattle.commands.specs.rules.Commands.{memoryIf, unitOf, typeFilled, fillMemory, shapeOf, shapeSet, settingMemory}
+use Rattle.stores.specs.rules.Stores.{loaded, filled}
 use Rattle.commands.specs.declared.Judged.{Judged}
 use Rattle.commands.specs.declared.Judged.the-variants.{Granted, Refused}
 use Rattle.commands.specs.declared.Shape.{Shape}

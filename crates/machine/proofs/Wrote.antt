@@ -1,5 +1,5 @@
--- What words tell that they wrote. The data words of a load tell its bits: each tells the next of them, and two ranges that adjoin are one. Any word tells by its command's number: by
--- cases over the commands, then over the phases.
+-- What words tell that they wrote. The data words of a load tell its bits: each tells the next of them, and two ranges that adjoin are one. Any word tells by
+-- its command's number: by cases over the commands, then over the phases.
 use Prim.Native.Nat.{ℕ, _+_, _-_, _*_, _/_, _<_, min}
 use mathlib.Core.Bool.{Bool, false, _||_}
 use mathlib.Core.List.{List, [], _∷_}
@@ -31,7 +31,8 @@ use Rattle.ledger.specs.rules.Totals.{counted, firstSpent, isSpent, following, 
 use Rattle.ledger.specs.declared.Totals.{Totals}
 use Rattle.ledger.proofs.Agreement.{numbers-stay}
 use Rattle.ledger.proofs.Laws.{numbers-on}
-use Rattle.commands.specs.rules.Commands.{doneIf, loadJudged, loaded, fillJudged, fillDone, shapeOf, settingJudged, settingDone}
+use Rattle.commands.specs.rules.Commands.{doneIf, loadJudged, fillJudged, fillDone, shapeOf, settingJudged, settingDone}
+use Rattle.stores.specs.rules.Stores.{loaded}
 use Rattle.commands.specs.rules.Wrote.{noneWrote, bytesWrote, shapeWrote, settingWrote}
 use Rattle.commands.specs.declared.Done.{Done}
 use Rattle.commands.specs.declared.Judged.{Judged}
@@ -40,7 +41,9 @@ use Rattle.commands.specs.declared.Shape.{Shape}
 use Rattle.commands.specs.declared.Shape.the-variants.{Bits, Wrong}
 use Rattle.commands.specs.declared.Wrote.{Wrote}
 use Rattle.commands.proofs.Judging.{granted-before}
-use Rattle.machine.specs.rules.Machine.{WordOutcome, await, withChecksum, countedOn, stop, refused, writing, _leaving_, after, entered, noneKept, awaited, numbering, counting, loadBegun, dataBytes, echoing, performed, toward, begun, acknowledging, opening, atOpcode, inPhase, wordStep}
+use Rattle.machine.specs.rules.Machine.{WordOutcome, await, withChecksum, countedOn, stop, refused, writing, _leaving_, after, entered, noneKept, awaited}
+use Rattle.machine.specs.rules.Machine.{outOfNumbers, overflowing, loadBegun, dataBytes, echoing, performed, toward, begun, acknowledging, opening}
+use Rattle.machine.specs.rules.Machine.{atOpcode, inPhase, wordStep}
 use Rattle.machine.specs.rules.Replies.{farewell}
 use Rattle.machine.specs.claims.Wrote.{tells, someTell, AllBy, toldBy, PiecesTellTheLoad, TookOne, KeepsNumbers, ByLast, WordTells, TellsByNumber}
 use Rattle.machine.specs.declared.Core.{Core}
@@ -81,7 +84,8 @@ bits (w ∷ ws) k m place size at whole p =
     let step = data-step k m place size w more at in
     let end : place + size ≡ place + min size 4 + (size - 4) = omega arith in
     let rest =
-    bits ws (nextCore k place size w) (loaded m place (dataBytes w size)) (place + min size 4) (size - 4) (ap (λ (e : ℕ). awaited e (size - 4)) end) (omega arith) p in
+    bits ws (nextCore k place size w) (loaded m place (dataBytes w size)) (place + min size 4) (size - 4) (ap (λ (e : ℕ). awaited e (size - 4)) end)
+    (omega arith) p in
     let first : 8 * (place + min size 4) + 0 ≡ 8 * place + 0 + 8 * min size 4 = omega arith in
     let all : 8 * min size 4 + 8 * (size - 4) ≡ 8 * size = omega arith in
     ap (λ (o : WordOutcome). tells (o .answer .wrote) p || someTell (toldBy (o .answer .core) (o .memory) ws) p) step
@@ -98,7 +102,8 @@ number (w ∷ ws) k m place size at whole =
     let step = data-step k m place size w more at in
     let end : place + size ≡ place + min size 4 + (size - 4) = omega arith in
     let rest =
-    number ws (nextCore k place size w) (loaded m place (dataBytes w size)) (place + min size 4) (size - 4) (ap (λ (e : ℕ). awaited e (size - 4)) end) (omega arith) in (
+    number ws (nextCore k place size w) (loaded m place (dataBytes w size)) (place + min size 4) (size - 4) (ap (λ (e : ℕ). awaited e (size - 4)) end)
+    (omega arith) in (
       ap (λ (o : WordOutcome). o .answer .wrote .number) step,
       subst (λ (o : WordOutcome). AllBy (k .tally .totals .next - 1) (toldBy (o .answer .core) (o .memory) ws)) (sym step) rest,
     )
@@ -131,18 +136,21 @@ counted-next Dm648 t size = refl
 taken-next : (t u : Totals) → u .next ≡ t .next → 0 < t .next → isSpent t ≡ false → t .next + 1 ≡ numbered u .next
 taken-next t u same some left = sym (ap following same ∙ numbers-on .one-more t (λ e. omega (arith, some, e)) left)
 
-section-next : (k : Core) (size : ℕ) (judged : Judged) (place : ℕ) → KeepsNumbers k → counting k size judged ≡ Granted place
+section-next : (k : Core) (size : ℕ) (judged : Judged) (place : ℕ) → KeepsNumbers k → outOfNumbers k (overflowing k size judged) ≡ Granted place
     → k .tally .totals .next + 1 ≡ countedOn k size .next
 section-next k size judged place n granted =
-    taken-next (k .tally .totals) (counted (k .dialect) (k .tally .totals) size) (counted-next (k .dialect) (k .tally .totals) size) (n .totals .0 .some) (section-counts k size judged place granted .unspent)
+    taken-next (k .tally .totals) (counted (k .dialect) (k .tally .totals) size) (counted-next (k .dialect) (k .tally .totals) size) (n .totals .0 .some)
+    (section-counts k size judged place granted .unspent)
 
-setting-next : (k : Core) (judged : Judged) (place : ℕ) → KeepsNumbers k → numbering k judged ≡ Granted place
+setting-next : (k : Core) (judged : Judged) (place : ℕ) → KeepsNumbers k → outOfNumbers k judged ≡ Granted place
     → k .tally .totals .next + 1 ≡ numbered (k .tally .totals) .next
 setting-next k judged place n granted =
-    taken-next (k .tally .totals) (k .tally .totals) refl (n .totals .0 .some) (granted-before (isSpent (k .tally .totals)) refusal.Number judged place granted .0)
+    taken-next (k .tally .totals) (k .tally .totals) refl (n .totals .0 .some)
+    (granted-before (isSpent (k .tally .totals)) refusal.Number judged place granted .0)
 
 counted-on : (k : Core) (size : ℕ) → KeepsNumbers k → HasNumbers (countedOn k size)
-counted-on k size n = numbers-stay .numbering (counted (k .dialect) (k .tally .totals) size) (numbers-stay .counting (k .dialect) (k .tally .totals) size (n .totals))
+counted-on k size n = numbers-stay .numbering (counted (k .dialect) (k .tally .totals) size)
+    (numbers-stay .counting (k .dialect) (k .tally .totals) size (n .totals))
 
 -- what is told of a judgement: nothing where it is refused, else by the number
 bytes-by : (judged : Judged) (size number : ℕ) (t : Totals) → 0 < number → ((place : ℕ) → judged ≡ Granted place → number + 1 ≡ t .next)
@@ -221,19 +229,21 @@ performed-tells : (c : Command) (k : Core) (m : List ℕ) (kept : Kept) (word : 
 unfolding fillDone settingDone
 performed-tells command.Load k m kept word =
     let judged : Judged = loadJudged (k .windows) (kept .third) word in
-    load-tells k m (kept .third) word (counting k word judged) (λ place n granted. section-next k word judged place n granted)
+    load-tells k m (kept .third) word (outOfNumbers k (overflowing k word judged)) (λ place n granted. section-next k word judged place n granted)
 performed-tells command.Fill k m kept word =
     let first : Judged = fillJudged (k .windows) (kept .first) (kept .second) (kept .third) in
-    let judged : Judged = counting k (kept .second) first in
+    let judged : Judged = outOfNumbers k (overflowing k (kept .second) first) in
     done-tells k _ (countedOn k (kept .second)) _ (bytesWrote judged (kept .second) (k .tally .totals .next)) (counted-on k (kept .second))
-    (λ n. bytes-by judged (kept .second) (k .tally .totals .next) (countedOn k (kept .second)) (n .totals .0 .some) (λ place granted. section-next k (kept .second) first place n granted))
+    (λ n. bytes-by judged (kept .second) (k .tally .totals .next) (countedOn k (kept .second)) (n .totals .0 .some)
+    (λ place granted. section-next k (kept .second) first place n granted))
     (bytes-none judged _ _ _ (kept .second) (k .tally .totals .next))
 performed-tells command.BootTable k m kept word =
     let first : Judged = settingJudged (k .windows) (kept .first) (kept .second) (kept .third) in
-    let judged : Judged = numbering k first in
+    let judged : Judged = outOfNumbers k first in
     done-tells k _ (numbered (k .tally .totals)) _ (settingWrote judged (kept .first) (k .tally .totals .next))
     (λ n. numbers-stay .numbering (k .tally .totals) (n .totals))
-    (λ n. setting-by judged (kept .first) (k .tally .totals .next) (numbered (k .tally .totals)) (n .totals .0 .some) (λ place granted. setting-next k first place n granted))
+    (λ n. setting-by judged (kept .first) (k .tally .totals .next) (numbered (k .tally .totals)) (n .totals .0 .some)
+    (λ place granted. setting-next k first place n granted))
     (setting-none judged _ _ _ (kept .first) (k .tally .totals .next))
 performed-tells command.Enable k m kept word = silent-tells (λ n. record { totals = n .totals; load = tt })
 performed-tells command.Disable k m kept word = silent-tells (λ n. record { totals = n .totals; load = tt })

@@ -40,7 +40,8 @@ every-row Flash Dm648 = refl
 every-row Sent Am17xx = refl
 every-row Sent Dm648 = refl
 
-pub row-is : (mode : Mode) (dialect : Dialect) (opcode : ℕ) (c : Command) (words : ℕ) → lookedUp opcode mode dialect ≡ Known c words → rowIs mode dialect c words ≡ true
+pub row-is : (mode : Mode) (dialect : Dialect) (opcode : ℕ) (c : Command) (words : ℕ) → lookedUp opcode mode dialect ≡ Known c words
+    → rowIs mode dialect c words ≡ true
 unfolding lookedUp
 row-is mode dialect opcode c words found =
     by-test (eqb opcode retired)

@@ -20,7 +20,8 @@ use Rattle.opcodes.specs.declared.Found.the-variants.{Known}
 
 pub found-from : (rows : List Row) (opcode : ℕ) (mode : Mode) (dialect : Dialect) (i : ℕ) (other : Row) → i < length rows
     → foundIn (drop i rows) opcode mode dialect
-    ≡ pick (rowServes (getD rows i other) opcode mode dialect) (Known (getD rows i other .command) (getD rows i other .words)) (foundIn (drop (i + 1) rows) opcode mode dialect)
+    ≡ pick (rowServes (getD rows i other) opcode mode dialect) (Known (getD rows i other .command) (getD rows i other .words))
+    (foundIn (drop (i + 1) rows) opcode mode dialect)
 unfolding foundIn
 found-from rows opcode mode dialect i other h = rw (drop-cons rows i other h, add-one) refl
 
@@ -46,7 +47,8 @@ found-passes mode dialect test (row ∷ rest) opcode command words every found =
     let here : Known (row .command) (row .words) ≡ Known command words = sym (chosen _ _ _ serves) ∙ found in
     let same-command : row .command ≡ command = cc in
     let same-words : row .words ≡ words = cc in
-    rw (← same-command, ← same-words) (allowed-passes (allowed row mode dialect) (test (row .command) (row .words)) (serves-allowed row opcode mode dialect serves) (parts .0)))
+    rw (← same-command, ← same-words) (allowed-passes (allowed row mode dialect) (test (row .command) (row .words))
+    (serves-allowed row opcode mode dialect serves) (parts .0)))
     (λ other. found-passes mode dialect test rest opcode command words (parts .1) (sym (passed _ _ _ other) ∙ found))
   where
     allowed-passes : (a t : Bool) → a ≡ true → (not a || t) ≡ true → t ≡ true

@@ -298,7 +298,8 @@ fn row_first(row: Row, opcode: u32, mode: Mode, dialect: Dialect, later: Found) 
     later
 }
 
-// The command of an opcode in a mode and a dialect, with its argument words, unless the opcode is retired. The rows are gone through from the last to the first.
+// The command of an opcode in a mode and a dialect, with its argument words, unless the opcode is retired. The rows are gone through from the last to the
+// first.
 pub fn look_up(opcode: u32, mode: Mode, dialect: Dialect) -> Found
     ensures { λ r. ⌜ r ≡ lookedUp opcode mode dialect ⌝ }
 {

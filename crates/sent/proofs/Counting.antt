@@ -120,7 +120,8 @@ next-alike bus x t u am =
     ≡ bareLine (unitStep bus (record { core = having d (x .session .core) (numberedAs t (totals x)); line = x .session .line }) (x .memory) u))
     (sym am) (unit-alike (x .session .core) (totals x) t (totals x) (x .session .line) bus (x .memory) u)
 
-fed-alike : (bus : Bus) (units : List ℕ) (x y : State) → x .session .core .dialect ≡ Am17xx → withTotals atOpening x ≡ withTotals atOpening y → ButTotals bus x y units
+fed-alike : (bus : Bus) (units : List ℕ) (x y : State) → x .session .core .dialect ≡ Am17xx → withTotals atOpening x ≡ withTotals atOpening y
+    → ButTotals bus x y units
 unfolding fed answers bareLine
 fed-alike bus [] x y am e = record { same-answers = refl; same-rest = e }
 fed-alike bus (u ∷ us) x y am e =
@@ -132,7 +133,8 @@ fed-alike bus (u ∷ us) x y am e =
     (ap (λ (o : line.UnitOutcome). record { session = o .answer .session; memory = o .memory }) step) in
     record {
       same-answers =
-          ap₂ _∷_ (ap (λ (o : line.UnitOutcome). record { refusal = o .answer .refusal; reply = o .answer .reply; event = o .answer .event }) step) (rest .same-answers);
+          ap₂ _∷_ (ap (λ (o : line.UnitOutcome). record { refusal = o .answer .refusal; reply = o .answer .reply; event = o .answer .event }) step)
+          (rest .same-answers);
       same-rest = rest .same-rest;
     }
 

@@ -16,8 +16,8 @@ use Rattle.opcodes.specs.rules.Answers.{codeOf}
 use Rattle.opcodes.specs.declared.Dialect.{Dialect}
 use Rattle.opcodes.specs.declared.Refusal.the-variants as refusal
 use Rattle.sent.specs.rules.Bus.{unitBits, unitsInWord, unitsOf, allUnits, firstUnit, pushed}
-use Rattle.sent.specs.rules.Feeding.{State, Heard, next, fed, answers, NoneRefused}
-use Rattle.sent.specs.claims.Lift.{atWord, silent, refusedBy, heardWord, Plain, Ready, UnitsAreTheWord, Absorbed, replied, Words, EitherLine, Lines}
+use Rattle.sent.specs.rules.Feeding.{State, Heard, next, fed, answers, replied, NoneRefused}
+use Rattle.sent.specs.claims.Lift.{atWord, silent, refusedBy, heardWord, Plain, Ready, UnitsAreTheWord, Absorbed, Words, EitherLine, Lines}
 use Rattle.sent.specs.rules.Line.{UnitOutcome, carried, isStart, unitStep}
 use Rattle.machine.specs.rules.Machine as machine
 use Rattle.machine.specs.rules.Machine.{wordStep}

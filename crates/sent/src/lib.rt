@@ -8,7 +8,7 @@ ghost use lib.ListN.{getD, replicate};
 ghost use Rattle.words.specs.rules.Choice.{pick};
 ghost use Rattle.checksum.specs.rules.Checksum.{fed};
 ghost use Rattle.windows.specs.rules.Map.{zeroWindow};
-ghost use Rattle.opcodes.specs.rules.Answers.{codeOf};
+ghost use Rattle.opcodes.specs.rules.Answers.{accepted, codeOf};
 ghost use Rattle.ledger.specs.declared.Totals.{Totals};
 ghost use Rattle.sent.specs.rules.Bus.{unitBits, unitsInWord, startUnit, halvesOf, unitsFed, pushed};
 ghost use Rattle.sent.specs.rules.Line.{plainly, gathered, carried, isStart, unitStep};
@@ -451,7 +451,7 @@ fn push(bus: Bus, word: u32, unit: u32) -> u32
 
 // The line after a whole word: refused, its units stay gathered; accepted, the next word begins.
 fn line_after(line: Line, refusal: Refusal) -> Line
-    ensures { λ r. ⌜ r ≡ pick (eqb (codeOf refusal) 0) (record { started = line .started; have = 0; word = 0 }) line ⌝ }
+    ensures { λ r. ⌜ r ≡ pick (accepted refusal) (record { started = line .started; have = 0; word = 0 }) line ⌝ }
 {
     if refusal.code() == 0 {
         return Line {

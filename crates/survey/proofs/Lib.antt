@@ -1,4 +1,3 @@
 pub mod Ends
 pub mod Example
-pub mod Images
 pub mod Lists

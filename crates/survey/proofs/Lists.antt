@@ -17,7 +17,8 @@ use Rattle.words.specs.rules.Bytes.{number, bytesAt, wordAt}
 use Rattle.words.proofs.Choice.{chosen, passed, by-test, of-choice}
 use Rattle.survey.specs.rules.Images.{absent, memoryLeft, imageOf, isOpened, wasOpened, setOf, unlike}
 use Rattle.survey.specs.rules.Survey.{mostImages, begun, countedBy, latest, lineOf, including}
-use Rattle.survey.specs.claims.Lists.{surveyFrom, surveyOf, linesFrom, linesOf, openedOnes, lastOr, lineAfter, linesAfter, EachLine, FullAtTheLast, totalsOver, AllWords, TotalsOfTheLines, imageNamed, WordsFit, AllSmall, AtMost32, figures, AbsentTakenOut}
+use Rattle.survey.specs.claims.Lists.{surveyFrom, surveyOf, linesFrom, linesOf, openedOnes, lastOr, lineAfter, linesAfter, EachLine, FullAtTheLast}
+use Rattle.survey.specs.claims.Lists.{totalsOver, AllWords, TotalsOfTheLines, imageNamed, WordsFit, AllSmall, AtMost32, figures, AbsentTakenOut}
 use Rattle.survey.specs.declared.Image.{Image}
 use Rattle.survey.specs.declared.SurveyLine.{SurveyLine}
 use Rattle.survey.specs.declared.Outcome.{Outcome}
@@ -36,8 +37,10 @@ last-opened other [] i =
     (λ t. ap (lastOr other) (passed (isOpened i) (i ∷ []) [] t) ∙ sym (passed (isOpened i) i other t))
 last-opened other (x ∷ earlier) i =
     by-test (isOpened x)
-    (λ t. ap (lastOr other) (chosen (isOpened x) _ _ t) ∙ last-opened x earlier i ∙ sym (ap (λ (l : List Image). latest (lastOr other l) i) (chosen (isOpened x) _ _ t)))
-    (λ t. ap (lastOr other) (passed (isOpened x) _ _ t) ∙ last-opened other earlier i ∙ sym (ap (λ (l : List Image). latest (lastOr other l) i) (passed (isOpened x) _ _ t)))
+    (λ t. ap (lastOr other) (chosen (isOpened x) _ _ t) ∙ last-opened x earlier i
+    ∙ sym (ap (λ (l : List Image). latest (lastOr other l) i) (chosen (isOpened x) _ _ t)))
+    (λ t. ap (lastOr other) (passed (isOpened x) _ _ t) ∙ last-opened other earlier i
+    ∙ sym (ap (λ (l : List Image). latest (lastOr other l) i) (passed (isOpened x) _ _ t)))
 
 -- a survey so far that fits the images before
 record Fits (s : Survey) (earlier : List Image) : Type 0 where

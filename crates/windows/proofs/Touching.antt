@@ -15,7 +15,8 @@ use Rattle.windows.specs.declared.Place.{Place}
 use Rattle.windows.specs.declared.Place.the-variants.{At, Nowhere}
 use Rattle.windows.specs.rules.Map.{allSound, rising, goodMap, zeroWindow, keptOf}
 use Rattle.windows.specs.claims.Touching.{hasPlace, heldBySome, oneGrants, someBegins, OnTouching, TouchingWindows}
-use Rattle.windows.specs.rules.Window.{hasRight, endOf, inside, holdsAddress, grantsRange, carriesOn, chainGrants, placeFrom, placeOf, sumOf, some, insideSome}
+use Rattle.windows.specs.rules.Window.{hasRight, endOf, inside, holdsAddress, grantsRange, carriesOn, chainGrants, placeFrom, placeOf, sumOf, some}
+use Rattle.windows.specs.rules.Window.{insideSome}
 use Rattle.windows.proofs.Chains.{either, carries-here, by-next, chained, chain-here, chain-not-held}
 use Rattle.windows.proofs.Parts.{within, held, held-by-right, granted, sound, good}
 
@@ -218,7 +219,8 @@ placed-byte (v ∷ before) after w right a n base p x r e above below here =
     (λ f.
     omega (
       arith,
-      placed-byte before after w right a n (base + v .length) p x (r .1) (sym (passed (chainGrants v (before ++ (w ∷ after)) right a n) _ _ f) ∙ e) above below here,
+      placed-byte before after w right a n (base + v .length) p x (r .1) (sym (passed (chainGrants v (before ++ (w ∷ after)) right a n) _ _ f) ∙ e) above
+          below here,
     ))
 
 -- size 0 asks one window
@@ -297,7 +299,8 @@ on-rising ws r =
       byte-by-byte = λ right a n place i e h before after w stands here.
           omega (
             arith,
-            placed-byte before after w right a n 0 place (a + i) (subst Rises stands r) (subst (λ (l : List Window). placeFrom 0 l right a n ≡ At place) stands e)
+            placed-byte before after w right a n 0 place (a + i) (subst Rises stands r)
+                (subst (λ (l : List Window). placeFrom 0 l right a n ≡ At place) stands e)
                 (omega arith) (omega arith) here,
           );
       size-zero = λ right a. none-granted ws right a 0;

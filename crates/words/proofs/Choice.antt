@@ -1,5 +1,5 @@
 -- Tests and choices: which side of a choice counts, and what a test that holds says of its parts. Each goes by the cases of a test.
-use mathlib.Core.Bool.{Bool, true, false, _&&_, true≢false}
+use mathlib.Core.Bool.{Bool, true, false, _&&_, _||_, true≢false}
 use mathlib.Core.Path.{_≡_, refl, sym, ap}
 use Rattle.words.specs.rules.Choice.{pick}
 
@@ -23,6 +23,11 @@ by-test false held failed = failed refl
 pub both : (a b : Bool) → (a && b) ≡ true → (a ≡ true) × (b ≡ true)
 both true b e = (refl, e)
 both false b e = absurd (true≢false (sym e))
+
+-- neither part of a test that fails holds
+pub neither : (a b : Bool) → (a || b) ≡ false → (a ≡ false) × (b ≡ false)
+neither true b e = absurd (true≢false e)
+neither false b e = (refl, e)
 
 -- a test that cannot hold
 pub refuted : (t : Bool) → (t ≡ true → ⊥) → false ≡ t

@@ -2,7 +2,7 @@
 use borrow.Author.Needs.{needs}
 use mathlib.Core.Path.{refl}
 use Rattle.bench.proofs.BitRuns.{noted, run-unknown, run-known}
-use Rattle.bench.proofs.Laws.{numbered-within}
+use Rattle.bench.proofs.RunOffsets.{numbered-within}
 use Rattle.bench.proofs.ais_bits_run.Statement.{statement}
 use Rattle.bench.proofs.ais_bits_run.Tie as tie
 
@@ -41,9 +41,19 @@ same-length-2 c = search needs
 
 returns-2 : tie.Need-returns-2
 returns-2 c =
-    let a = c .before .before .before .before .before .before .before .before .before .before .before .before .before .before .before .before .before .before .args in
-    noted (run-known (a .dialect) (a .map .now) (a .chosen .now) (a .memory .now) (a .numbers .now) (a .image .now) (a .limit) (c .before .before .before .before .before .before .before .before .before .before .before .before .if1 .left))
-    (rw (c .before .before .before .before .before .before .before .choose-on .ensures, c .before .before .before .before .before .before .before .before .open-numbering .ensures, c .before .before .before .before .before .before .before .before .before .windows-of .ensures, c .before .before .before .before .before .before .before .before .before .before .count-of .ensures, c .before .before .before .before .before .before .before .before .before .before .before .dialect-of .ensures) at (c .before .before .before .before .bits-from .ensures))
+    let chosen = c .before .before .before .before .before .before .before in
+    let opened = chosen .before in
+    let read = opened .before in
+    let known = read .before .before .before in
+    let a = known .before .before .before .before .before .before .args in
+    let led = rw (
+      chosen .choose-on .ensures,
+      opened .open-numbering .ensures,
+      read .windows-of .ensures,
+      read .before .count-of .ensures,
+      read .before .before .dialect-of .ensures,
+    ) at (c .before .before .before .before .bits-from .ensures) in
+    noted (run-known (a .dialect) (a .map .now) (a .chosen .now) (a .memory .now) (a .numbers .now) (a .image .now) (a .limit) (known .if1 .left)) led
 
 pub ais-bits-run-spec : {M : Type 1} → statement M
 ais-bits-run-spec =

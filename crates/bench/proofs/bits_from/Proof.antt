@@ -1,5 +1,4 @@
 -- `bench::bits_from` meets its contract: barred, nothing is touched; else it is the run, with the numbers cleared before it.
-use borrow.Author.Needs.{needs}
 use Prim.Native.Nat.{ℕ, _*_, _^_}
 use mathlib.Core.List.{List}
 use mathlib.Core.Path.{_≡_, refl, sym, ap, _∙_}
@@ -7,11 +6,13 @@ use lib.ListN.{length}
 use Rattle.windows.specs.rules.Window.{sumOf}
 use Rattle.opcodes.specs.rules.Answers.{codeOf}
 use Rattle.opcodes.specs.declared.Refusal.{Refusal}
-use Rattle.bit_watch.specs.rules.Watched.{runEntries}
-use Rattle.bench.specs.rules.Numbers.{barred, placesIn}
+use Rattle.bit_choice.specs.rules.Chosen.{chosenPlaces}
+use Rattle.flash_runs.specs.rules.Entries.{entriesFrom}
+use Rattle.bench_sessions.specs.rules.Numbers.{barred}
 use Rattle.bench.specs.rules.Runs.{reported}
 use Rattle.bench.proofs.BitRuns.{noted, from-barred, from-run}
-use Rattle.bench.proofs.Laws.{run-at}
+use Rattle.bench.proofs.RunOffsets.{ran-at}
+use borrow.Author.Needs.{needs}
 use Rattle.bench.proofs.bits_from.Statement.{statement}
 use Rattle.bench.proofs.bits_from.Tie as tie
 
@@ -30,22 +31,31 @@ refuse-run-requires c κs = search needs
 returns : tie.Need-returns
 returns c =
     let a = c .before .before .before .before .before .before .before .before .before .before .args in
-    let why : c .before .before .before .bar .result ≡ barred (a .opened .refusal) (a .choice) (length (a .numbers .now)) (length (a .memory .now)) (sumOf (a .opened .session .windows)) =
-    c .before .before .before .bar .ensures ∙ ap (barred _ _ _ _) (c .before .before .before .before .sum .ensures) in
-    noted (from-barred (a .opened) (a .choice) (a .memory .now) (a .numbers .now) (a .image .now) (λ e. c .before .if1 .taken (c .before .before .code .ensures ∙ ap (λ (q : Refusal). codeOf q) why ∙ e)))
-    (c .refuse-run .ensures ∙ ap (λ (q : Refusal). codeOf q * 2 ^ 56) why, (refl, refl))
+    let judged = c .before .before .before in
+    let barred-by : judged .bar .result
+    ≡ barred (a .opened .refusal) (a .choice) (length (a .numbers .now)) (length (a .memory .now)) (sumOf (a .opened .session .windows)) =
+    judged .bar .ensures ∙ ap (barred _ _ _ _) (judged .before .sum .ensures) in
+    noted
+    (from-barred (a .opened) (a .choice) (a .memory .now) (a .numbers .now) (a .image .now)
+    (λ e. c .before .if1 .taken (c .before .before .code .ensures ∙ ap (λ (q : Refusal). codeOf q) barred-by ∙ e)))
+    (c .refuse-run .ensures ∙ ap (λ (q : Refusal). codeOf q * 2 ^ 56) barred-by, (refl, refl))
 
 clear-requires : tie.Need-clear-requires
 clear-requires c κs = search needs
 
-slice-aggregate-run : tie.Need-slice-aggregate-run
-slice-aggregate-run c = search needs
+slice-aggregate-run-from : tie.Need-slice-aggregate-run-from
+slice-aggregate-run-from c = search needs
 
-run-requires : tie.Need-run-requires
-run-requires c κs = search needs
+slice-aggregate-run-from-2 : tie.Need-slice-aggregate-run-from-2
+slice-aggregate-run-from-2 c = search needs
+
+run-from-requires : tie.Need-run-from-requires
+run-from-requires c κs = search needs
 
 report-requires : tie.Need-report-requires
-report-requires c κs = rw (c .before .before .before .before .run .ensures .0) (run-at 65536 (c .before .before .before .before .before .before .before .before .before .before .before .before .before .before .before .before .before .before .before .before .before .before .args .image .now) _ (c .before .before .before .before .before .before .before .before .before .before .before .before .before .before .before .before .before .before .before .before .before .before .args .memory .now) (c .before .before .before .before .before .before .before .before .before .before .before .before .before .before .before .before .before .before .before .before .before .before .pre))
+report-requires c κs =
+    let judged = c .before .before .before .before .before .before .before .before .before .before .before .before .before .before .before .before .before in
+    rw (c .before .before .before .before .before .run-from .ensures .0) (ran-at _ _ _ (judged .before .before .before .before .before .before .before .pre))
 
 same-length : tie.Need-same-length
 same-length c = search needs
@@ -55,15 +65,24 @@ same-length-2 c = search needs
 
 returns-2 : tie.Need-returns-2
 returns-2 c =
-    let a = c .before .before .before .before .before .before .before .before .before .before .before .before .before .before .before .before .before .before .before .before .before .before .before .args in
-    let why : c .before .before .before .before .before .before .before .before .before .before .before .before .before .before .before .before .bar .result ≡ barred (a .opened .refusal) (a .choice) (length (a .numbers .now)) (length (a .memory .now)) (sumOf (a .opened .session .windows)) =
-    c .before .before .before .before .before .before .before .before .before .before .before .before .before .before .before .before .bar .ensures ∙ ap (barred _ _ _ _) (c .before .before .before .before .before .before .before .before .before .before .before .before .before .before .before .before .before .sum .ensures) in
-    noted (from-run (a .opened) (a .choice) (a .memory .now) (a .numbers .now) (a .image .now) (sym (ap (λ (q : Refusal). codeOf q) why) ∙ sym (c .before .before .before .before .before .before .before .before .before .before .before .before .before .before .before .code .ensures) ∙ c .before .before .before .before .before .before .before .before .before .before .before .before .before .before .if1 .left)) (
-      c .report .ensures ∙ ap reported (c .before .before .before .before .before .run .ensures .0),
+    let judged = c .before .before .before .before .before .before .before .before .before .before .before .before .before .before .before .before .before
+    .before in
+    let a = judged .before .before .before .before .before .before .before .args in
+    let barred-by : judged .bar .result
+    ≡ barred (a .opened .refusal) (a .choice) (length (a .numbers .now)) (length (a .memory .now)) (sumOf (a .opened .session .windows)) =
+    judged .bar .ensures ∙ ap (barred _ _ _ _) (judged .before .sum .ensures) in
+    let run = c .before .before .before .before .before .before .run-from .ensures in
+    let cleared = c .before .before .before .before .before .before .before .before .before .before .before .before .before .before .clear .ensures in
+    noted
+    (from-run (a .opened) (a .choice) (a .memory .now) (a .numbers .now) (a .image .now)
+    (sym (ap (λ (q : Refusal). codeOf q) barred-by) ∙ sym
+    (c .before .before .before .before .before .before .before .before .before .before .before .before .before .before .before .before .before .code .ensures)
+    ∙ c .before .before .before .before .before .before .before .before .before .before .before .before .before .before .before .before .if1 .left)) (
+      c .report .ensures ∙ ap reported (run .0),
       (
-        c .before .before .before .before .before .run .ensures .1 .0,
-        c .before .before .before .before .before .run .ensures .1 .1
-            ∙ ap (λ (numbers : List ℕ). runEntries (placesIn (a .choice)) numbers (a .opened .session) (a .memory .now) (a .image .now)) (c .before .before .before .before .before .before .before .before .before .before .before .before .clear .ensures),
+        run .1 .0,
+        run .1 .1 .0
+            ∙ ap (λ (numbers : List ℕ). entriesFrom (chosenPlaces (a .choice .chosen)) numbers (a .opened) (a .memory .now) (a .image .now)) cleared,
       ),
     )
 
@@ -77,8 +96,9 @@ bits-from-spec =
     refuse-run-requires
     returns
     clear-requires
-    slice-aggregate-run
-    run-requires
+    slice-aggregate-run-from
+    slice-aggregate-run-from-2
+    run-from-requires
     report-requires
     same-length
     same-length-2

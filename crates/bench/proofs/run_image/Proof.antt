@@ -6,7 +6,7 @@ use Rattle.words.proofs.Choice.{chosen, passed}
 use Rattle.words.proofs.Numbers.{from-place}
 use Rattle.bench.specs.rules.Fetched.{fetchedReport}
 use Rattle.bench.specs.rules.Runs.{reported}
-use Rattle.bench.proofs.Laws.{ran-at}
+use Rattle.bench.proofs.RunOffsets.{opened-within, ran-at}
 use Rattle.bench.proofs.run_image.Statement.{statement}
 use Rattle.bench.proofs.run_image.Tie as tie
 
@@ -37,8 +37,8 @@ windows-of-requires c κs = search needs
 open-requires : tie.Need-open-requires
 open-requires c κs = search needs
 
-run-from-requires : tie.Need-run-from-requires
-run-from-requires c κs = search needs
+run-plain-requires : tie.Need-run-plain-requires
+run-plain-requires c κs = search needs
 
 report-fetched-requires : tie.Need-report-fetched-requires
 report-fetched-requires c κs = search needs
@@ -51,11 +51,19 @@ returns c =
     let opened = c .before .before .before .before .before .before in
     let read = opened .before in
     let a = read .before .before .before .before .before .before .before .args in
-    let led = rw (opened .«open» .ensures, read .windows-of .ensures, read .before .before .count-of .ensures, from-place (now (a .image)) 0, from-place (now (a .map)) 0) at (c .before .before .before .before .run-from .ensures) in
+    let led = rw (
+      opened .«open» .ensures,
+      read .windows-of .ensures,
+      read .before .before .count-of .ensures,
+      from-place (now (a .image)) 0,
+      from-place
+          (now (a .map)) 0,
+    ) at (c .before .before .before .before .run-plain .ensures) in
     (c .report-fetched .ensures ∙ ap fetchedReport (led .0) ∙ sym (chosen _ _ _ (c .before .if1 .taken)), led .1)
 
 report-requires : tie.Need-report-requires
-report-requires c κs = rw (c .before .before .before .run-from .ensures .0, c .before .before .before .before .before .«open» .ensures) (ran-at _ _ _ _ _ _)
+report-requires c κs = rw (c .before .before .before .run-plain .ensures .0, c .before .before .before .before .before .«open» .ensures)
+    (ran-at _ _ _ (opened-within _ _ _ _ _))
 
 same-length-2 : tie.Need-same-length-2
 same-length-2 c = search needs
@@ -65,7 +73,14 @@ returns-2 c =
     let opened = c .before .before .before .before .before .before in
     let read = opened .before in
     let a = read .before .before .before .before .before .before .before .args in
-    let led = rw (opened .«open» .ensures, read .windows-of .ensures, read .before .before .count-of .ensures, from-place (now (a .image)) 0, from-place (now (a .map)) 0) at (c .before .before .before .before .run-from .ensures) in
+    let led = rw (
+      opened .«open» .ensures,
+      read .windows-of .ensures,
+      read .before .before .count-of .ensures,
+      from-place (now (a .image)) 0,
+      from-place
+          (now (a .map)) 0,
+    ) at (c .before .before .before .before .run-plain .ensures) in
     (c .report .ensures ∙ ap reported (led .0) ∙ sym (passed _ _ _ (c .before .if1 .left)), led .1)
 
 pub run-image-spec : {M : Type 1} → statement M
@@ -81,7 +96,7 @@ run-image-spec =
     part-windows-of-end
     windows-of-requires
     open-requires
-    run-from-requires
+    run-plain-requires
     report-fetched-requires
     same-length
     returns

@@ -2,20 +2,21 @@
 use Prim.Native.Nat.{ℕ, _*_, _^_}
 use mathlib.Core.Bool.{not}
 use mathlib.Core.List.{List}
-use lib.Dec.{eqb, ltb}
+use lib.Dec.{ltb}
 use lib.ListN.{length}
 use Rattle.words.specs.rules.Choice.{pick}
 use Rattle.windows.specs.rules.Window.{sumOf}
-use Rattle.opcodes.specs.rules.Answers.{codeOf}
+use Rattle.opcodes.specs.rules.Answers.{accepted, codeOf}
 use Rattle.opcodes.specs.declared.Refusal.{Refusal}
 use Rattle.opcodes.specs.declared.Refusal.the-variants as refusal
 use Rattle.flash.specs.rules.Opening.{openedBy, numberingFrom}
 use Rattle.flash.specs.declared.Opened.{Opened}
-use Rattle.flash_runs.specs.rules.Run.{runOf}
+use Rattle.flash_runs.specs.rules.Entries.{entriesFrom}
+use Rattle.flash_runs.specs.rules.Run.{ranFrom}
+use Rattle.bit_choice.specs.rules.Chosen.{chosenPlaces}
 use Rattle.bit_choice.specs.declared.Choice.{Choice}
-use Rattle.bit_watch.specs.rules.Watched.{runEntries}
-use Rattle.bench.specs.rules.Map.{windowsOf, countOf}
-use Rattle.bench.specs.rules.Numbers.{cleared, choiceOn, placesIn, barred, dialectOf}
+use Rattle.bench_sessions.specs.rules.Map.{windowsOf, countOf}
+use Rattle.bench_sessions.specs.rules.Numbers.{cleared, choiceOn, barred, dialectOf}
 use Rattle.bench.specs.rules.Runs.{reported}
 
 -- what a run with numbers comes to
@@ -32,11 +33,11 @@ unrun q memory numbers = record { value = codeOf q * 2 ^ 56; memory = memory; nu
 unfoldable pub bitsFrom : Opened → Choice → List ℕ → List ℕ → List ℕ → Noted
 bitsFrom o choice memory numbers image =
     let q = barred (o .refusal) choice (length numbers) (length memory) (sumOf (o .session .windows)) in
-    pick (not (eqb (codeOf q) 0)) (unrun q memory numbers)
+    pick (not (accepted q)) (unrun q memory numbers)
     (record {
-      value = reported (runOf (o .session) memory image .answer);
-      memory = runOf (o .session) memory image .memory;
-      numbers = runEntries (placesIn choice) (cleared numbers) (o .session) memory image;
+      value = reported (ranFrom o memory image .answer);
+      memory = ranFrom o memory image .memory;
+      numbers = entriesFrom (chosenPlaces (choice .chosen)) (cleared numbers) o memory image;
     })
 
 -- in a dialect by number, on a map's bytes: 19 for another dialect than 0 and 1 before anything else is judged

@@ -52,7 +52,8 @@ fiveWritten room ws =
 
 -- a command: its words; 28, 16
 unfoldable pub commandTold : Setting → List ℕ → Told
-commandTold made room = pick (not (eqb (fieldCode (made .refusal)) 0)) (refused (made .refusal) room) (record { value = 0; room = fiveWritten room (made .words) })
+commandTold made room =
+    pick (not (eqb (fieldCode (made .refusal)) 0)) (refused (made .refusal) room) (record { value = 0; room = fiveWritten room (made .words) })
 
 -- the command for a name, a release and a value
 abbrev pub settingTold : List ℕ → List ℕ → ℕ → ℕ → List ℕ → Told

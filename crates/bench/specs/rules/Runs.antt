@@ -1,21 +1,13 @@
 -- One whole flash run for the bench: from the map's bytes to one number and the memory.
 use Prim.Native.Nat.{ℕ, _+_, _*_, _/_, _^_}
 use mathlib.Core.List.{List}
-use lib.Dec.{eqb}
-use Rattle.words.specs.rules.Choice.{pick}
 use Rattle.opcodes.specs.rules.Answers.{codeOf}
 use Rattle.opcodes.specs.declared.Dialect.{Dialect}
 use Rattle.flash.specs.rules.Opening.{openedBy}
-use Rattle.flash.specs.rules.Sessions.{CallOutcome, _leaving_, unchanged}
+use Rattle.flash.specs.rules.Sessions.{CallOutcome}
 use Rattle.flash.specs.declared.Called.{Called}
-use Rattle.flash.specs.declared.Opened.{Opened}
-use Rattle.flash_runs.specs.rules.Run.{runOf}
-use Rattle.bench.specs.rules.Map.{windowsOf, countOf}
-
--- a run from an opening; a refused one runs nothing, and offset, checksum and retries are 0
-unfoldable pub ranFrom : Opened → List ℕ → List ℕ → CallOutcome
-ranFrom o memory image =
-    pick (eqb (codeOf (o .refusal)) 0) (runOf (o .session) memory image) (unchanged (o .refusal) (o .session) leaving memory)
+use Rattle.flash_runs.specs.rules.Run.{ranFrom}
+use Rattle.bench_sessions.specs.rules.Map.{windowsOf, countOf}
 
 -- a run of an image in a dialect, on a map's bytes and the memory
 abbrev pub flashRun : Dialect → List ℕ → List ℕ → List ℕ → ℕ → CallOutcome

@@ -27,7 +27,8 @@ returns : tie.Need-returns Inv-loop μ-loop
 returns c =
     let turn = c .before .before .before in
     let a = turn .before .before .args in
-    among-here (now (a .bytes)) (a .count) (turn .loop .i) (search needs) (c .before .word-at .result) (c .before .word-at .ensures) (a .address) (c .if1 .taken)
+    among-here (now (a .bytes)) (a .count) (turn .loop .i) (search needs) (c .before .word-at .result) (c .before .word-at .ensures) (a .address)
+    (c .if1 .taken)
     ∙ turn .loop .inv
 
 add-i : tie.Need-add-i Inv-loop μ-loop

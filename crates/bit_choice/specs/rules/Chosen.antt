@@ -3,7 +3,7 @@ use Prim.Native.Nat.{ℕ, zero, suc, _+_, _*_, _/_, _%_}
 use mathlib.Core.Bool.{Bool, true, false, not, _&&_, _||_}
 use mathlib.Core.List.{List, [], _∷_, map}
 use lib.Dec.{eqb, leb}
-use lib.ListN.{length, replicate}
+use lib.ListN.{length, take, replicate}
 use lib.Seq.{sets}
 use Rattle.words.specs.rules.Bytes.{wordAt}
 use Rattle.words.specs.rules.Choice.{pick}
@@ -70,3 +70,7 @@ notTaken = record { refusal = refusal.Chosen; chosen = record { count = 0; place
 
 unfoldable pub choiceOf : List Window → List ℕ → Choice
 choiceOf windows bytes = pick (goodChoice windows bytes) (taken windows (length bytes / 4) (addressesOf bytes)) notTaken
+
+-- the places of the chosen words
+abbrev pub chosenPlaces : Chosen → List ℕ
+chosenPlaces c = take (c .count) (c .places)

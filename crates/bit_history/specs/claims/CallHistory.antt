@@ -1,61 +1,54 @@
--- The history of a flash session (02, request 6), from the commands that its calls accept and how they are judged: the loads, fills and settings in order, abandoned ones too.
--- And what its entries and its memory have to do with it.
-use Prim.Native.Nat.{ℕ, zero, suc, _+_, _*_, _<_}
+-- The history of a flash session (02, request 6), from the commands that its calls accept and how they are judged: the loads, fills and settings in order,
+-- abandoned ones too. And what its entries and its memory have to do with it.
+use Prim.Native.Nat.{ℕ, zero, suc, _*_, _<_}
 use mathlib.Core.Bool.{true}
 use mathlib.Core.List.{List, [], _∷_, _++_}
 use mathlib.Core.Path.{_≡_}
-use lib.Dec.{eqb}
 use lib.ListN.{length, replicate}
 use Rattle.words.specs.rules.Bytes.{bytesAt, wordAt}
 use Rattle.words.specs.rules.Choice.{pick}
-use Rattle.opcodes.specs.rules.Answers.{codeOf}
-use Rattle.opcodes.specs.rules.Opcodes.{lookedUp}
+use Rattle.opcodes.specs.rules.Answers.{accepted}
+use Rattle.opcodes.specs.rules.Opcodes.{byWriting, lookedUp}
 use Rattle.opcodes.specs.declared.Command.{Command}
 use Rattle.opcodes.specs.declared.Command.the-variants as command
 use Rattle.opcodes.specs.declared.Found.{Found}
 use Rattle.opcodes.specs.declared.Found.the-variants.{Known, Retired, Unknown}
 use Rattle.opcodes.specs.declared.Mode.the-variants.{Flash}
+use Rattle.reading.specs.rules.Reading.{pastWords, argument}
 use Rattle.commands.specs.rules.Commands.{loadJudged, unitOf, fillJudged, shapeOf, settingJudged}
 use Rattle.law_effects.specs.claims.Effects.{loadEffect, fillEffect, settingEffect}
 use Rattle.law_effects.specs.claims.Wrote.{Tells}
 use Rattle.bit_stamps.specs.rules.Stamps.{entryAt}
 use Rattle.bit_history.specs.claims.History.{Numbered, lastNumber, numbersFit, stampedAll, chosenBit}
-use Rattle.flash.specs.rules.Step.{argument, stepOf}
+use Rattle.flash.specs.rules.Step.{stepOf}
 use Rattle.flash.specs.claims.Totals.{Lent, answerTo}
 use Rattle.flash.specs.declared.Session.{Session}
+use Rattle.flash_runs.specs.rules.Entries.{callEntries, runEntries}
 use Rattle.flash_runs.specs.rules.Run.{goesOn, enough}
-use Rattle.bit_watch.specs.rules.Watched.{callEntries, runEntries}
 use Rattle.bit_history.specs.claims.Accepted.{judgedOne}
 
--- an accepted command: a load, a fill or a setting
-abbrev pub acceptedCommand : Command → Session → List ℕ → List Numbered
-acceptedCommand command.Load s image =
-    judgedOne (s .totals .next) (loadJudged (s .windows) (argument s image 0) (argument s image 1))
-    (λ place. loadEffect place (bytesAt image (s .offset + 12) (argument s image 1)))
-acceptedCommand command.Fill s image =
-    judgedOne (s .totals .next) (fillJudged (s .windows) (argument s image 0) (argument s image 1) (argument s image 2))
-    (λ place. fillEffect place (argument s image 1) (unitOf (argument s image 2)) (argument s image 3))
-acceptedCommand command.BootTable s image =
-    judgedOne (s .totals .next) (settingJudged (s .windows) (argument s image 0) (argument s image 1) (argument s image 2))
-    (λ place. settingEffect place (shapeOf (argument s image 0)) (argument s image 2))
-acceptedCommand command.Enable s image = []
-acceptedCommand command.Disable s image = []
-acceptedCommand command.Request s image = []
-acceptedCommand command.StartOver s image = []
-acceptedCommand command.JumpAndClose s image = []
-acceptedCommand command.Ping s image = []
-acceptedCommand command.SequentialRead s image = []
+-- an accepted command of so many argument words: a load, a fill or a setting
+abbrev pub acceptedCommand : Command → ℕ → Session → List ℕ → List Numbered
+acceptedCommand command words s image =
+    byWriting command
+    (judgedOne (s .totals .next) (loadJudged (s .windows) (argument image (s .offset) 0) (argument image (s .offset) 1))
+    (λ place. loadEffect place (bytesAt image (pastWords (s .offset) words) (argument image (s .offset) 1))))
+    (judgedOne (s .totals .next) (fillJudged (s .windows) (argument image (s .offset) 0) (argument image (s .offset) 1) (argument image (s .offset) 2))
+    (λ place. fillEffect place (argument image (s .offset) 1) (unitOf (argument image (s .offset) 2)) (argument image (s .offset) 3)))
+    (judgedOne (s .totals .next) (settingJudged (s .windows) (argument image (s .offset) 0) (argument image (s .offset) 1) (argument image (s .offset) 2))
+    (λ place. settingEffect place (shapeOf (argument image (s .offset) 0)) (argument image (s .offset) 2)))
+    []
 
 -- by what the table finds at the session's offset
 abbrev pub acceptedRow : Found → Session → List ℕ → List Numbered
 acceptedRow Unknown s image = []
 acceptedRow Retired s image = []
-acceptedRow (Known command words) s image = acceptedCommand command s image
+acceptedRow (Known command words) s image = acceptedCommand command words s image
 
 -- what a call adds: the command that it accepts
 unfoldable pub callHistory : Session → List ℕ → List ℕ → List Numbered
 callHistory s m image =
-    pick (eqb (codeOf (stepOf s m image .answer .refusal)) 0) (acceptedRow (lookedUp (wordAt image (s .offset)) Flash (s .dialect)) s image) []
+    pick (accepted (stepOf s m image .answer .refusal)) (acceptedRow (lookedUp (wordAt image (s .offset)) Flash (s .dialect)) s image) []
 
 -- the history of any calls, whatever is lent to each
 unfoldable pub history : Session → List Lent → List Numbered

@@ -1,5 +1,5 @@
--- The history of a sent session (02, request 6), from what the machine awaits and how it judges: the loads, fills and settings that were accepted, in order, abandoned ones too.
--- A load is told as its data come, each word of them with the load's number. And what its entries and its memory have to do with it.
+-- The history of a sent session (02, request 6), from what the machine awaits and how it judges: the loads, fills and settings that were accepted, in order,
+-- abandoned ones too. A load is told as its data come, each word of them with the load's number. And what its entries and its memory have to do with it.
 use Prim.Native.Nat.{ℕ, _-_, _*_, _<_}
 use mathlib.Core.Bool.{Bool, true, not, _&&_}
 use mathlib.Core.List.{List, [], _∷_, _++_}
@@ -9,7 +9,8 @@ use lib.ListN.{length, replicate}
 use Rattle.words.specs.rules.Choice.{pick}
 use Rattle.windows.specs.rules.Window.{sumOf}
 use Rattle.windows.specs.declared.Window.{Window}
-use Rattle.opcodes.specs.rules.Answers.{codeOf}
+use Rattle.opcodes.specs.rules.Answers.{accepted}
+use Rattle.opcodes.specs.rules.Opcodes.{byWriting}
 use Rattle.opcodes.specs.declared.Command.{Command}
 use Rattle.opcodes.specs.declared.Command.the-variants as command
 use Rattle.opcodes.specs.declared.Dialect.{Dialect}
@@ -34,20 +35,13 @@ use Rattle.bit_history.specs.claims.Accepted.{one, judgedOne}
 
 -- a command with all its words: a fill or a setting; a load writes nothing before its data
 abbrev pub lastWord : Command → Core → Kept → ℕ → List Numbered
-lastWord command.Load k kept word = []
-lastWord command.Fill k kept word =
-    judgedOne (k .tally .totals .next) (fillJudged (k .windows) (kept .first) (kept .second) (kept .third))
-    (λ place. fillEffect place (kept .second) (unitOf (kept .third)) word)
-lastWord command.BootTable k kept word =
-    judgedOne (k .tally .totals .next) (settingJudged (k .windows) (kept .first) (kept .second) (kept .third))
-    (λ place. settingEffect place (shapeOf (kept .first)) (kept .third))
-lastWord command.Enable k kept word = []
-lastWord command.Disable k kept word = []
-lastWord command.Request k kept word = []
-lastWord command.StartOver k kept word = []
-lastWord command.JumpAndClose k kept word = []
-lastWord command.Ping k kept word = []
-lastWord command.SequentialRead k kept word = []
+lastWord command k kept word =
+    byWriting command []
+    (judgedOne (k .tally .totals .next) (fillJudged (k .windows) (kept .first) (kept .second) (kept .third))
+    (λ place. fillEffect place (kept .second) (unitOf (kept .third)) word))
+    (judgedOne (k .tally .totals .next) (settingJudged (k .windows) (kept .first) (kept .second) (kept .third))
+    (λ place. settingEffect place (shapeOf (kept .first)) (kept .third)))
+    []
 
 -- a word that is accepted, by the phase that awaits it: the last argument of a command, or data of the load that has the number before the next
 abbrev pub acceptedWord : Phase → Core → ℕ → List Numbered
@@ -57,7 +51,7 @@ acceptedWord (phase.Data end left) k word = one (k .tally .totals .next - 1) (lo
 acceptedWord (phase.Echo n) k word = []
 
 unfoldable pub wordHistory : Core → List ℕ → ℕ → List Numbered
-wordHistory k m word = pick (eqb (codeOf (wordStep k m word .answer .refusal)) 0) (acceptedWord (k .stage .phase) k word) []
+wordHistory k m word = pick (accepted (wordStep k m word .answer .refusal)) (acceptedWord (k .stage .phase) k word) []
 
 -- is a unit the last one of a word, of a session that runs on memory of its map's length?
 unfoldable pub endsWord : Bus → Session → List ℕ → ℕ → Bool
@@ -86,7 +80,8 @@ pub data Led (bus : Bus) : Session → Type 0 where
 
 pub record UnitsTell (bus : Bus) : Type 0 where
   -- the entries are those that the history stamps, from any state
-  pub stamps : (places entries : List ℕ) (x : State) (units : List ℕ) → entriesAfter bus places entries x units ≡ stampedAll entries places (history bus x units)
+  pub stamps : (places entries : List ℕ) (x : State) (units : List ℕ)
+      → entriesAfter bus places entries x units ≡ stampedAll entries places (history bus x units)
   -- after an opening each of its numbers is below 65,536
   pub fit : (dialect : Dialect) (count : ℕ) (windows : List Window) (m units : List ℕ)
       → numbersFit (history bus (atOpening bus dialect count windows m) units) ≡ true

@@ -24,7 +24,8 @@ unfolding alike
 returns-2 c =
     let a = c .before .before .before .before .before .args in
     c .same-name .ensures
-    ∙ sym (ap (λ (t : Bool). t && sameField (a .a .field) (a .b .field)) (sym (c .before .before .before .before .same-writer .ensures) ∙ not-false _ (c .before .before .before .if1 .left)))
+    ∙ sym (ap (λ (t : Bool). t && sameField (a .a .field) (a .b .field))
+    (sym (c .before .before .before .before .same-writer .ensures) ∙ not-false _ (c .before .before .before .if1 .left)))
 
 pub alike-told-spec : {M : Type 1} → statement M
 alike-told-spec = tie.close (tie.spec same-writer-requires returns same-name-requires returns-2)

@@ -25,7 +25,8 @@ returns : tie.Need-returns Inv-loop μ-loop
 returns c =
     let turn = c .before .before .before in
     let a = turn .before .args in
-    lowest-here (hasField (a .names) (a .word)) (turn .loop .i) (a .to) (search needs) (ap (λ (f : FoundLine). f .found) (sym (c .before .field-at .ensures)) ∙ c .if1 .taken)
+    lowest-here (hasField (a .names) (a .word)) (turn .loop .i) (a .to) (search needs)
+    (ap (λ (f : FoundLine). f .found) (sym (c .before .field-at .ensures)) ∙ c .if1 .taken)
     ∙ turn .loop .inv
 
 add-i : tie.Need-add-i Inv-loop μ-loop
@@ -38,7 +39,8 @@ loop-again : tie.Need-loop-again Inv-loop μ-loop
 loop-again c =
     let turn = c .before .before .before in
     let a = turn .before .args in
-    lowest-on (hasField (a .names) (a .word)) (turn .loop .i) (a .to) (search needs) (ap (λ (f : FoundLine). f .found) (sym (c .before .field-at .ensures)) ∙ c .if1 .left)
+    lowest-on (hasField (a .names) (a .word)) (turn .loop .i) (a .to) (search needs)
+    (ap (λ (f : FoundLine). f .found) (sym (c .before .field-at .ensures)) ∙ c .if1 .left)
     ∙ turn .loop .inv
 
 returns-2 : tie.Need-returns-2 Inv-loop μ-loop

@@ -27,7 +27,8 @@ unfolding isFirst
 returns c =
     let turn = c .before .before .before in
     let a = turn .before .before .before .args in
-    ap not (seen-here (byOne (now (a .numbers)) (now (a .offsets)) (a .index) (a .bit)) 0 (a .bit) (turn .loop .i) (turn .loop .inv) (search needs) (sym (c .before .by-one .ensures) ∙ c .if1 .taken))
+    ap not (seen-here (byOne (now (a .numbers)) (now (a .offsets)) (a .index) (a .bit)) 0 (a .bit) (turn .loop .i) (turn .loop .inv) (search needs)
+    (sym (c .before .by-one .ensures) ∙ c .if1 .taken))
 
 add-i : tie.Need-add-i Inv-loop μ-loop
 add-i c = search needs
@@ -39,7 +40,8 @@ loop-again : tie.Need-loop-again Inv-loop μ-loop
 loop-again c =
     let turn = c .before .before .before in
     let a = turn .before .before .before .args in
-    lowest-on (byOne (now (a .numbers)) (now (a .offsets)) (a .index) (a .bit)) (turn .loop .i) (a .bit) (search needs) (sym (c .before .by-one .ensures) ∙ c .if1 .left) ∙ turn .loop .inv
+    lowest-on (byOne (now (a .numbers)) (now (a .offsets)) (a .index) (a .bit)) (turn .loop .i) (a .bit) (search needs)
+    (sym (c .before .by-one .ensures) ∙ c .if1 .left) ∙ turn .loop .inv
 
 returns-2 : tie.Need-returns-2 Inv-loop μ-loop
 unfolding isFirst

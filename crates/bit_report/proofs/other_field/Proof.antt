@@ -24,7 +24,8 @@ returns : tie.Need-returns Inv-loop μ-loop
 returns c =
     let turn = c .before .before .before in
     let a = turn .before .args in
-    lowest-here (hasOther (a .names) (a .word) (a .field)) (turn .loop .i) (a .to) (search needs) (sym (c .before .has-other .ensures) ∙ c .if1 .taken) ∙ turn .loop .inv
+    lowest-here (hasOther (a .names) (a .word) (a .field)) (turn .loop .i) (a .to) (search needs) (sym (c .before .has-other .ensures) ∙ c .if1 .taken)
+    ∙ turn .loop .inv
 
 add-i : tie.Need-add-i Inv-loop μ-loop
 add-i c = search needs
@@ -36,7 +37,8 @@ loop-again : tie.Need-loop-again Inv-loop μ-loop
 loop-again c =
     let turn = c .before .before .before in
     let a = turn .before .args in
-    lowest-on (hasOther (a .names) (a .word) (a .field)) (turn .loop .i) (a .to) (search needs) (sym (c .before .has-other .ensures) ∙ c .if1 .left) ∙ turn .loop .inv
+    lowest-on (hasOther (a .names) (a .word) (a .field)) (turn .loop .i) (a .to) (search needs) (sym (c .before .has-other .ensures) ∙ c .if1 .left)
+    ∙ turn .loop .inv
 
 returns-2 : tie.Need-returns-2 Inv-loop μ-loop
 returns-2 c =

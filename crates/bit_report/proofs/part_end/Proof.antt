@@ -11,7 +11,8 @@ use Rattle.bit_report.proofs.part_end.Statement.{statement}
 use Rattle.bit_report.proofs.part_end.Tie as tie
 
 abbrev Inv-loop : tie.InvT-loop
-Inv-loop numbers offsets names word bit told i₀ i = (i ≤ 32) × (lowestIn (unlikeAt numbers offsets names word bit) i 32 ≡ lowestIn (unlikeAt numbers offsets names word bit) (bit + 1) 32)
+Inv-loop numbers offsets names word bit told i₀ i = (i ≤ 32)
+    × (lowestIn (unlikeAt numbers offsets names word bit) i 32 ≡ lowestIn (unlikeAt numbers offsets names word bit) (bit + 1) 32)
 
 abbrev μ-loop : tie.MeasureT-loop
 μ-loop numbers offsets names word bit told i₀ i = 32 - i
@@ -37,7 +38,8 @@ returns c =
     let turn = c .before .before .before .before in
     let a = turn .before .before .before .before .args in
     let same = c .before .alike-told .ensures ∙ ap₂ alike (turn .before .told-of .ensures) (c .before .before .told-of2 .ensures) in
-    lowest-here (unlikeAt (now (a .numbers)) (now (a .offsets)) (a .names) (a .word) (a .bit)) (turn .loop .i) 32 (search needs) (sym (ap not same) ∙ c .if1 .taken)
+    lowest-here (unlikeAt (now (a .numbers)) (now (a .offsets)) (a .names) (a .word) (a .bit)) (turn .loop .i) 32 (search needs)
+    (sym (ap not same) ∙ c .if1 .taken)
     ∙ turn .loop .inv .1
 
 add-i-2 : tie.Need-add-i-2 Inv-loop μ-loop
@@ -52,7 +54,8 @@ loop-again c =
     let a = turn .before .before .before .before .args in
     let same = c .before .alike-told .ensures ∙ ap₂ alike (turn .before .told-of .ensures) (c .before .before .told-of2 .ensures) in (
       search needs,
-      lowest-on (unlikeAt (now (a .numbers)) (now (a .offsets)) (a .names) (a .word) (a .bit)) (turn .loop .i) 32 (search needs) (sym (ap not same) ∙ c .if1 .left)
+      lowest-on (unlikeAt (now (a .numbers)) (now (a .offsets)) (a .names) (a .word) (a .bit)) (turn .loop .i) 32 (search needs)
+          (sym (ap not same) ∙ c .if1 .left)
           ∙ turn .loop .inv .1,
     )
 

@@ -1,5 +1,5 @@
--- What may be relied on: a part is all of the bits around its first of which the same is told; a command has the bits that its stamping gave the number; and what
--- is pointed out is there.
+-- What may be relied on: a part is all of the bits around its first of which the same is told; a command has the bits that its stamping gave the number; and
+-- what is pointed out is there.
 use Prim.Native.Nat.{ℕ, _+_, _*_, _≤_, _<_}
 use mathlib.Core.Bool.{true, false, _&&_}
 use mathlib.Core.List.{List}

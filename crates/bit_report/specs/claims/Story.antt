@@ -1,5 +1,5 @@
--- The story that this product began with, as it is told of the scripts: in release 2 the priority bit stands just above a door dwell of two bits; in release 3 the
--- dwell takes it as a third bit, and the priority bit moves up.
+-- The story that this product began with, as it is told of the scripts: in release 2 the priority bit stands just above a door dwell of two bits; in release 3
+-- the dwell takes it as a third bit, and the priority bit moves up.
 use Prim.Native.Nat.{ℕ}
 use mathlib.Core.Bool.{true, false}
 use mathlib.Core.List.{List, [], _∷_}

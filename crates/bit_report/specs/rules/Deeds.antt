@@ -2,7 +2,7 @@
 use Prim.Native.Nat.{ℕ, _+_}
 use mathlib.Core.List.{List}
 use Rattle.words.specs.rules.Bytes.{wordAt}
-use Rattle.opcodes.specs.rules.Opcodes.{lookedUp}
+use Rattle.opcodes.specs.rules.Opcodes.{byWriting, lookedUp}
 use Rattle.opcodes.specs.declared.Command.{Command}
 use Rattle.opcodes.specs.declared.Command.the-variants as command
 use Rattle.opcodes.specs.declared.Dialect.the-variants.{Am17xx}
@@ -39,16 +39,8 @@ settingDeed image at word = spread kind.Setting word (settingWrote (Granted (wor
 
 -- no other command writes
 abbrev pub commandDeed : Command → List ℕ → ℕ → ℕ → Deed
-commandDeed command.Load image at word = bytesDeed kind.Load image at word
-commandDeed command.Fill image at word = bytesDeed kind.Fill image at word
-commandDeed command.BootTable image at word = settingDeed image at word
-commandDeed command.Enable image at word = noDeed
-commandDeed command.Disable image at word = noDeed
-commandDeed command.Request image at word = noDeed
-commandDeed command.StartOver image at word = noDeed
-commandDeed command.JumpAndClose image at word = noDeed
-commandDeed command.Ping image at word = noDeed
-commandDeed command.SequentialRead image at word = noDeed
+commandDeed command image at word =
+    byWriting command (bytesDeed kind.Load image at word) (bytesDeed kind.Fill image at word) (settingDeed image at word) noDeed
 
 abbrev pub foundDeed : Found → List ℕ → ℕ → ℕ → Deed
 foundDeed (Known c n) image at word = commandDeed c image at word

@@ -1,24 +1,16 @@
 -- `bit_runs::run` meets its contract: words that are refused leave all as it is; else the image is opened, and the run is that of its opening.
-use mathlib.Core.List.{List}
-use mathlib.Core.Path.{ap, ap₂, sym, _∙_}
-use borrow.Author.Tests.{eq-eqb, ne-eqb}
+use Prim.Native.Nat.{ℕ}
+use mathlib.Core.Path.{refl, sym, ap, _∙_}
+use lib.ListN.{length-map}
+use Rattle.flash.specs.declared.Called.{Called}
+use Rattle.bit_runs.specs.rules.Runs.{ended}
+use Rattle.bit_runs.proofs.Runs.{words-refused, words-taken}
 use borrow.Author.Needs.{needs}
-use denote.Ref.{now}
-use Rattle.words.proofs.Choice.{chosen, passed}
-use Rattle.windows.specs.declared.Window.{Window}
-use Rattle.opcodes.specs.rules.Answers.{codeOf}
-use Rattle.opcodes.specs.declared.Dialect.the-variants.{Am17xx}
-use Rattle.bit_choice.specs.rules.Chosen.{choiceOf}
-use Rattle.bit_choice.specs.declared.Choice.{Choice}
-use Rattle.bit_choice.specs.declared.Chosen.{Chosen}
-use Rattle.flash.specs.rules.Opening.{openedBy, numberingFrom}
-use Rattle.flash.specs.declared.Opened.{Opened}
-use Rattle.bit_runs.specs.rules.Runs.{openedTraced, openedMemory, openedNumbers, openedOffsets, traced, memoryLeft, numbersLeft, offsetsLeft}
 use Rattle.bit_runs.proofs.run.Statement.{statement}
 use Rattle.bit_runs.proofs.run.Tie as tie
 
-check-windows-requires : tie.Need-check-windows-requires
-check-windows-requires c κs = search needs
+windows-requires : tie.Need-windows-requires
+windows-requires c κs = search needs
 
 choose-requires : tie.Need-choose-requires
 choose-requires c κs = search needs
@@ -30,21 +22,23 @@ not-chosen-requires : tie.Need-not-chosen-requires
 not-chosen-requires c κs = search needs
 
 returns : tie.Need-returns
-unfolding traced memoryLeft numbersLeft offsetsLeft
 returns c =
-    let a = c .before .before .before .before .before .before .before .before .before .before .args in
-    let picked = c .before .before .before .choose .ensures ∙ ap (λ (ws : List Window). choiceOf ws (now (a .list))) (c .before .before .before .before .check-windows .ensures) in
-    let numbered = c .before .before .code .ensures ∙ ap (λ (x : Choice). codeOf (x .refusal)) picked in
-    let never = ne-eqb _ _ (λ e. c .before .if1 .taken (numbered ∙ e)) in (
-      c .not-chosen .ensures ∙ sym (passed _ _ _ never),
-      (sym (passed _ _ _ never), (sym (passed _ _ _ never), sym (passed _ _ _ never))),
-    )
+    let number = rw (c .before .before .before .choose .ensures, c .before .before .before .before .windows .ensures) at (c .before .before .code .ensures) in
+    words-refused _ _ _ _ _ (λ e. c .before .if1 .taken (number ∙ e)) (c .not-chosen .ensures, (refl, (refl, refl)))
 
 open-numbering-requires : tie.Need-open-numbering-requires
 open-numbering-requires c κs = search needs
 
-run-opened-requires : tie.Need-run-opened-requires
-run-opened-requires c κs = search needs
+slice-aggregate-run-from : tie.Need-slice-aggregate-run-from
+slice-aggregate-run-from c =
+    let picked = c .before .before .before .before .before .before .choose in
+    sym (picked .ok .1 .1 .1 .0 .1 .1 .1 .0 .1 .0 .1) ∙ length-map (picked .result .chosen .places) (λ (place : ℕ). place)
+
+run-from-requires : tie.Need-run-from-requires
+run-from-requires c κs = search needs
+
+ended-by-requires : tie.Need-ended-by-requires
+ended-by-requires c κs = search needs
 
 same-length : tie.Need-same-length
 same-length c = search needs
@@ -56,42 +50,30 @@ same-length-3 : tie.Need-same-length-3
 same-length-3 c = search needs
 
 returns-2 : tie.Need-returns-2
-unfolding traced memoryLeft numbersLeft offsetsLeft
 returns-2 c =
-    let a = c .before .before .before .before .before .before .before .before .before .before .before .before .before .before .before .before .before .before .before .before .before .args in
-    let picked = c .before .before .before .before .before .before .before .before .before .before .before .before .before .before .choose .ensures ∙ ap (λ (ws : List Window). choiceOf ws (now (a .list))) (c .before .before .before .before .before .before .before .before .before .before .before .before .before .before .before .check-windows .ensures) in
-    let numbered = c .before .before .before .before .before .before .before .before .before .before .before .before .before .code .ensures ∙ ap (λ (x : Choice). codeOf (x .refusal)) picked in
-    let taken = eq-eqb _ _ (sym numbered ∙ c .before .before .before .before .before .before .before .before .before .before .before .before .if1 .left) in
-    let words = ap (λ (x : Choice). x .chosen) picked in
-    let opened =
-    c .before .before .before .before .before .before .before .before .before .before .open-numbering .ensures
-    ∙ ap (λ (ws : List Window). numberingFrom (openedBy Am17xx 1 ws (now (a .image)) 0)) (c .before .before .before .before .before .before .before .before .before .before .before .before .before .before .before .check-windows .ensures) in
-    let ran = c .before .before .before .before .before .before .run-opened in (
-      ran .ensures .0 ∙ ap₂ (λ (o : Opened) (w : Chosen). openedTraced o w (now (a .memory)) (now (a .image))) opened words ∙ sym (chosen _ _ _ taken),
-      (
-        ran .ensures .1 .0 ∙ ap (λ (o : Opened). openedMemory o (now (a .memory)) (now (a .image))) opened ∙ sym (chosen _ _ _ taken),
-        (
-          ran .ensures .1 .1 .0
-              ∙ ap₂ (λ (o : Opened) (w : Chosen). openedNumbers o w (now (a .memory)) (now (a .image)) (now (a .numbers))) opened words
-              ∙ sym (chosen _ _ _ taken),
-          ran .ensures .1 .1 .1
-              ∙ ap₂ (λ (o : Opened) (w : Chosen). openedOffsets o w (now (a .memory)) (now (a .image)) (now (a .offsets))) opened words
-              ∙ sym (chosen _ _ _ taken),
-        ),
-      ),
+    let picked = c .before .before .before .before .before .before .before .before .before .before .before .before .before .before .before in
+    let number = rw (picked .before .before .choose .ensures, picked .before .before .before .windows .ensures) at (picked .before .code .ensures) in
+    let opened = c .before .before .before .before .before .before .before .before .before .before .before .before .open-numbering .ensures in
+    let run = c .before .before .before .before .before .before .before .run-from .ensures in
+    words-taken _ _ _ _ _ (sym number ∙ picked .if1 .left) (
+      rw (opened, picked .before .before .choose .ensures, picked .before .before .before .windows .ensures) at
+          (c .ended-by .ensures ∙ ap (λ (x : Called). ended x (picked .before .before .choose .result .chosen)) (run .0)),
+      rw (opened, picked .before .before .choose .ensures, picked .before .before .before .windows .ensures) at (run .1),
     )
 
 pub run-spec : {M : Type 1} → statement M
 run-spec =
     tie.close
     (tie.spec
-    check-windows-requires
+    windows-requires
     choose-requires
     code-requires
     not-chosen-requires
     returns
     open-numbering-requires
-    run-opened-requires
+    slice-aggregate-run-from
+    run-from-requires
+    ended-by-requires
     same-length
     same-length-2
     same-length-3

@@ -1,5 +1,5 @@
 -- What is told of the words that an image fetches, in the check program's window and from memory of zeros: how many, next to the most that it may.
-use Prim.Native.Nat.{ℕ, _/_, _≤_}
+use Prim.Native.Nat.{ℕ, _/_}
 use mathlib.Core.List.{List}
 use lib.ListN.{length}
 use Rattle.words.specs.rules.Choice.{pick}
@@ -21,7 +21,3 @@ counted n limit a = record { code = codeOf (a .refusal); fetched = a .session .f
 
 unfoldable pub countedOf : List ℕ → ℕ → Counted
 countedOf image limit = counted (length image) limit (lastAnswer image (openedBy Am17xx 1 windows image limit))
-
--- never more than the ceiling
-abbrev pub WithinCeiling : Type 0
-WithinCeiling = (image : List ℕ) (limit : ℕ) → countedOf image limit .fetched ≤ countedOf image limit .ceiling

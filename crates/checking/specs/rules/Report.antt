@@ -1,18 +1,16 @@
 -- What the check program reports of an image (01, "Marked examples"): one window, memory of zeros, retry limit 0, waits skipped.
 use Prim.Native.Nat.{ℕ}
 use mathlib.Core.List.{List, _∷_}
-use lib.Dec.{eqb}
 use lib.ListN.{replicate}
 use Rattle.words.specs.rules.Choice.{pick}
 use Rattle.windows.specs.rules.Map.{zeroWindow}
 use Rattle.windows.specs.declared.Window.{Window}
-use Rattle.opcodes.specs.rules.Answers.{codeOf, valueOf}
+use Rattle.opcodes.specs.rules.Answers.{accepted, codeOf, valueOf}
 use Rattle.opcodes.specs.declared.Dialect.{Dialect}
 use Rattle.flash.specs.rules.Opening.{openedBy}
-use Rattle.flash.specs.rules.Sessions.{unchanged}
 use Rattle.flash.specs.declared.Called.{Called}
 use Rattle.flash.specs.declared.Opened.{Opened}
-use Rattle.flash_runs.specs.rules.Run.{runOf}
+use Rattle.flash_runs.specs.rules.Run.{ranFrom}
 use Rattle.checking.specs.declared.Report.{Report}
 
 -- the window 0x80000000, length 4,096, rights 7
@@ -27,19 +25,17 @@ opened dialect image = openedBy dialect 1 windows image 0
 abbrev pub reported : Called → Report
 reported a =
     record {
-      entered = eqb (codeOf (a .refusal)) 0;
+      entered = accepted (a .refusal);
       code = codeOf (a .refusal);
       at = a .at;
-      entry = pick (eqb (codeOf (a .refusal)) 0) (valueOf (a .event)) 0;
+      entry = pick (accepted (a .refusal)) (valueOf (a .event)) 0;
       crc = a .session .checksum;
       retries = a .session .retries;
     }
 
--- a refused opening is the last answer, at offset 0; else a run is
+-- the last answer: of a run over memory of zeros, or of the refused opening
 unfoldable pub lastAnswer : List ℕ → Opened → Called
-lastAnswer image o =
-    pick (eqb (codeOf (o .refusal)) 0) (runOf (o .session) (replicate 4096 0) image .answer)
-    (unchanged (o .refusal) (o .session))
+lastAnswer image o = ranFrom o (replicate 4096 0) image .answer
 
 unfoldable pub reportOf : Dialect → List ℕ → Report
 reportOf dialect image = reported (lastAnswer image (opened dialect image))

@@ -8,7 +8,8 @@ use Rattle.words.specs.rules.Bytes.{byte}
 use Rattle.checksum.specs.rules.Checksum.{fedWords}
 use Rattle.windows.specs.rules.Map.{zeroWindow}
 use Rattle.windows.specs.declared.Window.{Window}
-use Rattle.commands.specs.rules.Commands.{judgedCode, soughtCode, loadJudged, loadFed, fillJudged, settingJudged, soughtFrom}
+use Rattle.commands.specs.rules.Commands.{judgedCode, soughtCode, loadJudged, fillJudged, settingJudged, soughtFrom}
+use Rattle.stores.specs.rules.Stores.{loadFed}
 use Rattle.commands.specs.declared.Judged.the-variants.{Granted}
 use Rattle.commands.specs.declared.Sought.the-variants as sought
 use Rattle.claims.specs.claims.Leaving.{setOn, filledOn}

@@ -1,14 +1,14 @@
 -- What a command does once its words are known, in either mode (01, "Commands", as the requests of 02 amend it).
-use Prim.Native.Nat.{ℕ, zero, suc, _+_, _-_, _*_, _/_, _%_, _^_}
+use Prim.Native.Nat.{ℕ, _+_, _-_, _*_, _%_, _^_}
 use mathlib.Core.Bool.{Bool, true, false, not, _&&_}
 use mathlib.Core.List.{List, [], _∷_}
 use lib.Dec.{leb, ltb, eqb}
-use lib.ListN.{length, getD, take, drop}
-use Rattle.words.specs.rules.Bytes.{byte, number, put, sizeOf, fieldWritten}
+use Rattle.words.specs.rules.Bytes.{byte, sizeOf, fieldWritten}
 use Rattle.words.specs.rules.Choice.{pick}
 use Rattle.words.specs.declared.Unit.{Unit as UnitOf}
 use Rattle.words.specs.declared.Unit.the-variants.{One, Two, Four}
 use Rattle.checksum.specs.rules.Checksum.{fed, fedWords}
+use Rattle.stores.specs.rules.Stores.{filled}
 use Rattle.windows.specs.rules.Window.{placeOf}
 use Rattle.windows.specs.declared.Window.{Window}
 use Rattle.windows.specs.declared.Place.{Place}
@@ -72,21 +72,6 @@ barred test q (Refused first) = Refused first
 unfoldable pub loadJudged : List Window → ℕ → ℕ → Judged
 loadJudged windows address size = rangeJudged windows right.Load address size
 
--- its bytes, lowest address first
-unfoldable pub loaded : List ℕ → ℕ → List ℕ → List ℕ
-loaded memory place bytes = put memory place (length bytes) (λ i. getD bytes i 0)
-
--- what n words of data feed: four bytes each, of the last as many as are left
-unfoldable pub wordsFed : ℕ → ℕ → List ℕ → ℕ
-wordsFed checksum zero bytes = checksum
-wordsFed checksum (suc n) bytes =
-    wordsFed (fed checksum (number (take 4 bytes)) (8 * length (take 4 bytes))) n (drop 4 bytes)
-
--- what a load feeds: address, size, data
-unfoldable pub loadFed : ℕ → ℕ → List ℕ → ℕ
-loadFed checksum address bytes =
-    wordsFed (fedWords checksum (address ∷ length bytes ∷ [])) ((length bytes + 3) / 4) bytes
-
 -- types 0, 1, 2 are units of 1, 2, 4 bytes
 unfoldable pub unitOf : ℕ → UnitType
 unitOf kind = pick (eqb kind 0) (Of One) (pick (eqb kind 1) (Of Two) (pick (eqb kind 2) (Of Four) Other))
@@ -105,10 +90,7 @@ typeJudged windows address size (Of unit) = unitsJudged windows right.Load unit 
 unfoldable pub fillJudged : List Window → ℕ → ℕ → ℕ → Judged
 fillJudged windows address size kind = typeJudged windows address size (unitOf kind)
 
--- the low bytes of the pattern repeat
-unfoldable pub filled : List ℕ → ℕ → ℕ → UnitOf → ℕ → List ℕ
-filled memory place size unit pattern = put memory place size (λ i. byte pattern (i % sizeOf unit))
-
+-- so of a type; another fills nothing
 abbrev pub typeFilled : List ℕ → ℕ → ℕ → UnitType → ℕ → List ℕ
 typeFilled memory place size Other pattern = memory
 typeFilled memory place size (Of unit) pattern = filled memory place size unit pattern

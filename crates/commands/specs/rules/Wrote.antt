@@ -15,6 +15,10 @@ firstBit w = 8 * w .place + w .start
 abbrev pub bitsWrote : ℕ → ℕ → ℕ → ℕ → Wrote
 bitsWrote place start count number = record { place = place; start = start; count = count; number = number }
 
+-- the same bits, by another number
+abbrev pub renumbered : ℕ → Wrote → Wrote
+renumbered n w = bitsWrote (w .place) (w .start) (w .count) n
+
 -- no bits
 abbrev pub noneWrote : Wrote
 noneWrote = bitsWrote 0 0 0 0

@@ -8,11 +8,11 @@ use Rattle.field_lines.proofs.address.Tie as tie
 returns : tie.Need-returns
 returns c = address-short (c .before .before .args .s .now) (c .if1 .taken)
 
-number-of-requires : tie.Need-number-of-requires
-number-of-requires c κs = search needs
+hexadecimal-requires : tie.Need-hexadecimal-requires
+hexadecimal-requires c κs = search needs
 
 returns-2 : tie.Need-returns-2
-returns-2 c = c .number-of .ensures ∙ address-by (c .before .before .before .args .s .now) (c .before .if1 .left)
+returns-2 c = c .hexadecimal .ensures ∙ address-by (c .before .before .before .args .s .now) (c .before .if1 .left)
 
 pub address-spec : {M : Type 1} → statement M
-address-spec = tie.close (tie.spec returns number-of-requires returns-2)
+address-spec = tie.close (tie.spec returns hexadecimal-requires returns-2)

@@ -2,7 +2,7 @@
 use mathlib.Core.Path.{sym, ap}
 use borrow.Author.Needs.{needs}
 use Rattle.field_lines.specs.rules.Pairs.{numberPair}
-use Rattle.field_lines.specs.declared.Number.{Number}
+use Rattle.digits.specs.declared.Number.{Number}
 use Rattle.field_lines.proofs.number_pair.Statement.{statement}
 use Rattle.field_lines.proofs.number_pair.Tie as tie
 

@@ -7,10 +7,10 @@ use lib.Dec.{leb, ltb}
 use lib.ListN.{length, take, drop}
 use Rattle.bytes.specs.Bytes.{indexOf}
 use Rattle.words.specs.rules.Choice.{pick}
-use Rattle.field_lines.specs.rules.Text.{bytesOf, part, same, someDigits, decimalOf, addressOf, noName, nameOf}
+use Rattle.digits.specs.declared.Number.{Number}
+use Rattle.digits.specs.declared.Number.the-variants.{Is, Wrong}
+use Rattle.field_lines.specs.rules.Text.{bytesOf, part, same, decimalOf, addressOf, noName, nameOf}
 use Rattle.field_lines.specs.declared.Named.{Named}
-use Rattle.field_lines.specs.declared.Number.{Number}
-use Rattle.field_lines.specs.declared.Number.the-variants.{Is, Wrong}
 use Rattle.field_lines.specs.declared.Pair.{Pair}
 use Rattle.field_lines.specs.declared.Value.{Value}
 use Rattle.field_lines.specs.declared.Value.the-variants.{From, Missing}
@@ -75,7 +75,3 @@ fieldIn text (From from to) = record { name = nameOf (part text from to); next =
 
 abbrev pub fieldPair : List ℕ → ℕ → Named
 fieldPair text at = fieldIn text (valueAt text at (bytesOf "field=") (code " "))
-
--- a number that a person gives: 0x and hexadecimal digits, or decimal digits
-unfoldable pub givenOf : List ℕ → Number
-givenOf s = pick (stands s 0 (bytesOf "0x")) (someDigits 16 (drop 2 s)) (someDigits 10 s)

@@ -1,5 +1,5 @@
--- What the bytes of a text say by themselves: literal text, digits and numbers, letters and names.
-use Prim.Native.Nat.{ℕ, _+_, _-_, _*_}
+-- What the bytes of a text say by themselves: literal text, numbers, letters and names.
+use Prim.Native.Nat.{ℕ, _-_}
 use Prim.Native.Char.{code}
 use Prim.Native.String.{String, [] as nothing, _∷_ as _before_}
 use mathlib.Core.Bool.{Bool, true, false, not, _&&_}
@@ -7,10 +7,9 @@ use mathlib.Core.List.{List, [], _∷_, _++_}
 use lib.Dec.{leb, ltb, eqb}
 use lib.ListN.{length, getD, take, drop, replicate}
 use Rattle.words.specs.rules.Choice.{pick}
-use Rattle.hex.specs.rules.Digits.{digitValue}
+use Rattle.digits.specs.rules.Numbers.{areDigits, numberOf, numberIf}
+use Rattle.digits.specs.declared.Number.{Number}
 use Rattle.field_lines.specs.declared.Name.{Name}
-use Rattle.field_lines.specs.declared.Number.{Number}
-use Rattle.field_lines.specs.declared.Number.the-variants.{Is, Wrong}
 
 -- the bytes of a literal
 abbrev pub bytesOf : String → List ℕ
@@ -32,27 +31,6 @@ same (a ∷ as₁) (b ∷ bs) = eqb a b && same as₁ bs
 abbrev pub between : ℕ → ℕ → ℕ → Bool
 between first last b = leb first b && leb b last
 
--- is every byte a digit of the base?
-unfoldable pub areDigits : ℕ → List ℕ → Bool
-areDigits base [] = true
-areDigits base (b ∷ s) = ltb (digitValue b) base && areDigits base s
-
--- the number that digits make behind those that make v, the highest first
-unfoldable pub numberFrom : ℕ → ℕ → List ℕ → ℕ
-numberFrom base v [] = v
-numberFrom base v (b ∷ s) = numberFrom base (v * base + digitValue b) s
-
-abbrev pub digitsValue : ℕ → List ℕ → ℕ
-digitsValue base s = numberFrom base 0 s
-
--- a number where a test holds
-abbrev pub numberIf : Bool → ℕ → Number
-numberIf t n = pick t (Is n) Wrong
-
--- the same number where they are digits and it is not above the most
-unfoldable pub numbered : ℕ → ℕ → ℕ → List ℕ → Number
-numbered base most v s = numberIf (areDigits base s && leb (numberFrom base v s) most) (numberFrom base v s)
-
 -- does a zero stand before other digits?
 unfoldable pub zeroLeads : List ℕ → Bool
 zeroLeads s = ltb 1 (length s) && eqb (getD s 0 0) (code "0")
@@ -63,18 +41,14 @@ isDecimal s = ltb 0 (length s) && areDigits 10 s && not (zeroLeads s)
 
 -- such a number in a range
 abbrev pub decimalOf : ℕ → ℕ → List ℕ → Number
-decimalOf least most s = numberIf (isDecimal s && between least most (digitsValue 10 s)) (digitsValue 10 s)
+decimalOf least most s = numberIf (isDecimal s && between least most (numberOf 10 s)) (numberOf 10 s)
 
 -- ADDR: eight hexadecimal digits
 unfoldable pub isAddress : List ℕ → Bool
 isAddress s = eqb (length s) 8 && areDigits 16 s
 
 abbrev pub addressOf : List ℕ → Number
-addressOf s = numberIf (isAddress s) (digitsValue 16 s)
-
--- one digit or more of a base, a number of 32 bits
-unfoldable pub someDigits : ℕ → List ℕ → Number
-someDigits base s = pick (eqb (length s) 0) Wrong (numbered base 4294967295 0 s)
+addressOf s = numberIf (isAddress s) (numberOf 16 s)
 
 -- are all bytes small letters?
 unfoldable pub areLetters : List ℕ → Bool

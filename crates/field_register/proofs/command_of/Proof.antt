@@ -41,7 +41,8 @@ returns-3 c =
     let after-if1 = at-width-of .before .before .before .before in
     let start = after-if1 .before .before in
     rw (c .words-for .ensures)
-    (made-words (start .args .found) (start .args .value) (not-false _ (after-if1 .if1 .left)) ((rw (sym (at-width-of .width-of .ensures)) (sym (c .before .before .too-wide .ensures))) ∙ c .before .if2 .left))
+    (made-words (start .args .found) (start .args .value) (not-false _ (after-if1 .if1 .left))
+    ((rw (sym (at-width-of .width-of .ensures)) (sym (c .before .before .too-wide .ensures))) ∙ c .before .if2 .left))
 
 pub command-of-spec : {M : Type 1} → statement M
 command-of-spec =

@@ -47,7 +47,8 @@ loop-again c =
     let start = turn .before in (
       search needs,
       rw (c .sooner .ensures)
-          (soonest-on _ (start .args .count) (start .args .t1) (turn .loop .i) (search needs) (search needs) (start .args .subject) (start .args .release) (turn .loop .best))
+          (soonest-on _ (start .args .count) (start .args .t1) (turn .loop .i) (search needs) (search needs) (start .args .subject) (start .args .release)
+          (turn .loop .best))
           ∙ turn .loop .inv .1,
     )
 

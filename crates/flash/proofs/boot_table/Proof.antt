@@ -1,24 +1,12 @@
--- `flash::boot_table` meets its contract: its words are read, and it is judged and done as the definition says.
+-- `flash::boot_table` meets its contract: it is judged and done as the definition says.
 use borrow.Author.Needs.{needs}
-use mathlib.Core.Path.{ap, _∙_}
-use denote.Ref.{now}
+use Rattle.flash.specs.rules.Step.{outOfNumbers, settingJudgedAs}
+use Rattle.commands.specs.declared.Judged.{Judged}
 use Rattle.flash.specs.rules.Sessions.{CallOutcome}
-use Rattle.flash.specs.rules.Step.{outOfNumbers}
-use Rattle.flash.proofs.Cases.{setting-read}
+use denote.Ref.{now}
+use mathlib.Core.Path.{ap, _∙_}
 use Rattle.flash.proofs.boot_table.Statement.{statement}
 use Rattle.flash.proofs.boot_table.Tie as tie
-
-argument-word-requires : tie.Need-argument-word-requires
-argument-word-requires c κs = search needs
-
-argument-word-requires-2 : tie.Need-argument-word-requires-2
-argument-word-requires-2 c κs = search needs
-
-argument-word-requires-3 : tie.Need-argument-word-requires-3
-argument-word-requires-3 c κs = search needs
-
-argument-word-requires-4 : tie.Need-argument-word-requires-4
-argument-word-requires-4 c κs = search needs
 
 judge-setting-requires : tie.Need-judge-setting-requires
 judge-setting-requires c κs = search needs
@@ -39,22 +27,20 @@ same-length : tie.Need-same-length
 same-length c = search needs
 
 returns : tie.Need-returns
-returns c = let a = c .before .before .before .before .before .before .before .before .before .before .before .before .before .before .before .before .args in
-    let judged = c .before .before .before .before .before .before .before .out-of-numbers .ensures ∙ ap (outOfNumbers (a .session)) (c .before .before .before .before .before .before .before .before .judge-setting .ensures) in
-    let read = setting-read (a .session) (now (a .memory)) (now (a .image)) (c .before .before .before .before .before .before .before .before .before .before .before .before .before .argument-word .ensures) (c .before .before .before .before .before .before .before .before .before .before .before .before .argument-word2 .ensures)
-    (c .before .before .before .before .before .before .before .before .before .before .before .argument-word3 .ensures) (c .before .before .before .before .before .before .before .before .before .before .argument-word4 .ensures) judged in (
-      rw (c .finish .ensures, c .before .wrote-setting .ensures, c .before .before .before .before .before .boot-table .ensures .0) (ap (λ (o : CallOutcome). o .answer) read),
-      c .before .before .before .before .before .boot-table .ensures .1 ∙ ap (λ (o : CallOutcome). o .memory) read,
+returns c =
+    let a = c .before .before .before .before .before .before .before .before .before .before .before .args in
+    let judged = c .before .before .before .before .before .before .out-of-numbers .ensures
+    ∙ ap (outOfNumbers (a .session)) (c .before .before .before .before .before .before .before .judge-setting .ensures) in
+    let read = ap (λ (j : Judged). settingJudgedAs (a .session) (now (a .memory)) (a .next) (a .word) (a .value) (a .delay) j) judged in (
+      rw (c .finish .ensures, c .before .wrote-setting .ensures, c .before .before .before .before .boot-table .ensures .0)
+          (ap (λ (o : CallOutcome). o .answer) read),
+      c .before .before .before .before .boot-table .ensures .1 ∙ ap (λ (o : CallOutcome). o .memory) read,
     )
 
 pub boot-table-spec : {M : Type 1} → statement M
 boot-table-spec =
     tie.close
     (tie.spec
-    argument-word-requires
-    argument-word-requires-2
-    argument-word-requires-3
-    argument-word-requires-4
     judge-setting-requires
     out-of-numbers-requires
     boot-table-requires

@@ -10,10 +10,12 @@ is-length-requires : tie.Need-is-length-requires
 is-length-requires c κs = search needs
 
 returns : tie.Need-returns
-returns c = sym (ap (λ (t : Bool). t && eqb (c .before .before .args .n) (c .before .before .args .length)) (sym (c .before .is-length .ensures) ∙ c .if1 .taken))
+returns c = sym (ap (λ (t : Bool). t && eqb (c .before .before .args .n) (c .before .before .args .length))
+    (sym (c .before .is-length .ensures) ∙ c .if1 .taken))
 
 returns-2 : tie.Need-returns-2
-returns-2 c = sym (ap (λ (t : Bool). t && eqb (c .before .before .args .n) (c .before .before .args .length)) (sym (c .before .is-length .ensures) ∙ c .if1 .left))
+returns-2 c = sym (ap (λ (t : Bool). t && eqb (c .before .before .args .n) (c .before .before .args .length))
+    (sym (c .before .is-length .ensures) ∙ c .if1 .left))
 
 pub is-image-spec : {M : Type 1} → statement M
 is-image-spec = tie.close (tie.spec is-length-requires returns returns-2)

@@ -1,19 +1,12 @@
--- `flash::load` meets its contract: its words are read, and each arm is one case of the judgement.
+-- `flash::load` meets its contract: each arm is one case of the judgement.
 use borrow.Author.Needs.{needs}
-use mathlib.Core.Path.{sym, ap, _∙_}
-use denote.Ref.{now}
-use Rattle.flash.specs.rules.Sessions.{CallOutcome}
-use Rattle.flash.specs.rules.Step.{overflowing}
+use Rattle.flash.specs.rules.Step.{overflowing, loadJudgedAs}
 use Rattle.commands.specs.declared.Judged.{Judged}
-use Rattle.flash.proofs.Cases.{load-read}
+use Rattle.flash.specs.rules.Sessions.{CallOutcome}
+use denote.Ref.{now}
+use mathlib.Core.Path.{sym, ap, _∙_}
 use Rattle.flash.proofs.load.Statement.{statement}
 use Rattle.flash.proofs.load.Tie as tie
-
-argument-word-requires : tie.Need-argument-word-requires
-argument-word-requires c κs = search needs
-
-argument-word-requires-2 : tie.Need-argument-word-requires-2
-argument-word-requires-2 c κs = search needs
 
 judge-load-requires : tie.Need-judge-load-requires
 judge-load-requires c κs = search needs
@@ -37,23 +30,29 @@ same-length : tie.Need-same-length
 same-length c = search needs
 
 returns : tie.Need-returns
-returns c = let a = c .before .before .before .before .before .before .before .before .before .before .before .before .before .before .args in
-    let judged = sym (c .before .before .before .before .before .judged .given .1) ∙ c .before .before .before .before .before .before .before .overflow .ensures ∙ ap (λ (j : Judged). overflowing (a .session) (c .before .before .before .before .before .before .before .before .before .before .argument-word2 .result) j) (c .before .before .before .before .before .before .before .before .judge-load .ensures) in
-    let read = load-read (a .session) (now (a .memory)) (now (a .image)) (c .before .before .before .before .before .before .before .before .before .before .before .argument-word .ensures) (c .before .before .before .before .before .before .before .before .before .before .argument-word2 .ensures) judged in
-    (c .before .before .load-at .ensures .0 ∙ ap (λ (o : CallOutcome). o .answer) read, c .before .before .load-at .ensures .1 ∙ ap (λ (o : CallOutcome). o .memory) read)
+returns c =
+    let a = c .before .before .before .before .before .before .before .before .before .before .before .before .before .args in
+    let judged = sym (c .before .before .before .before .before .judged .given .1)
+    ∙ c .before .before .before .before .before .before .before .overflow .ensures
+    ∙ ap (overflowing (a .session) (a .size)) (c .before .before .before .before .before .before .before .before .judge-load .ensures) in
+    let read = ap (λ (j : Judged). loadJudgedAs (a .session) (now (a .memory)) (now (a .image)) (a .next) (a .address) (a .size) j) judged in (
+      c .before .before .load-at .ensures .0 ∙ ap (λ (o : CallOutcome). o .answer) read,
+      c .before .before .load-at .ensures .1
+          ∙ ap (λ (o : CallOutcome). o .memory) read,
+    )
 
 returns-2 : tie.Need-returns-2
-returns-2 c = let a = c .before .before .before .before .before .before .before .before .before .before .before .args in
-    let judged = sym (c .before .before .judged2 .given .1) ∙ c .before .before .before .before .overflow .ensures ∙ ap (λ (j : Judged). overflowing (a .session) (c .before .before .before .before .before .before .before .argument-word2 .result) j) (c .before .before .before .before .before .judge-load .ensures) in
-    let read = load-read (a .session) (now (a .memory)) (now (a .image)) (c .before .before .before .before .before .before .before .before .argument-word .ensures) (c .before .before .before .before .before .before .before .argument-word2 .ensures) judged in
+returns-2 c =
+    let a = c .before .before .before .before .before .before .before .before .before .before .args in
+    let judged = sym (c .before .before .judged2 .given .1) ∙ c .before .before .before .before .overflow .ensures
+    ∙ ap (overflowing (a .session) (a .size)) (c .before .before .before .before .before .judge-load .ensures) in
+    let read = ap (λ (j : Judged). loadJudgedAs (a .session) (now (a .memory)) (now (a .image)) (a .next) (a .address) (a .size) j) judged in
     (c .halt .ensures ∙ ap (λ (o : CallOutcome). o .answer) read, ap (λ (o : CallOutcome). o .memory) read)
 
 pub load-spec : {M : Type 1} → statement M
 load-spec =
     tie.close
     (tie.spec
-    argument-word-requires
-    argument-word-requires-2
     judge-load-requires
     overflow-requires
     enum-known-judged

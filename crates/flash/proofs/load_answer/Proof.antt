@@ -3,17 +3,14 @@ use borrow.Author.Needs.{needs}
 use Rattle.flash.proofs.load_answer.Statement.{statement}
 use Rattle.flash.proofs.load_answer.Tie as tie
 
-add-words : tie.Need-add-words
-add-words c = search needs
-
-add-offset : tie.Need-add-offset
-add-offset c = search needs
+data-words-requires : tie.Need-data-words-requires
+data-words-requires c κs = search needs
 
 mul-offset : tie.Need-mul-offset
 mul-offset c = search needs
 
-add-offset-2 : tie.Need-add-offset-2
-add-offset-2 c = search needs
+add-offset : tie.Need-add-offset
+add-offset c = search needs
 
 wrote-bytes-requires : tie.Need-wrote-bytes-requires
 wrote-bytes-requires c κs = search needs
@@ -28,16 +25,22 @@ proceed-requires : tie.Need-proceed-requires
 proceed-requires c κs = search needs
 
 returns : tie.Need-returns
-returns c = rw (c .proceed .ensures, c .before .moved .ensures, c .before .before .fetch .ensures, c .before .before .before .wrote-bytes .ensures)
+returns c =
+    rw (
+      c .proceed .ensures,
+      c .before .moved .ensures,
+      c .before .before .fetch .ensures,
+      c .before .before .before .wrote-bytes .ensures,
+      c .before .before .before .before .before .data-words .ensures,
+    )
 
 pub load-answer-spec : {M : Type 1} → statement M
 load-answer-spec =
     tie.close
     (tie.spec
-    add-words
-    add-offset
+    data-words-requires
     mul-offset
-    add-offset-2
+    add-offset
     wrote-bytes-requires
     fetch-requires
     moved-requires

@@ -1,4 +1,4 @@
--- `flash::out_of_numbers` meets its contract: the test and its number are the definition's.
+-- `flash::out_of_numbers` meets its contract: it puts together what it calls.
 use borrow.Author.Needs.{needs}
 use Rattle.flash.proofs.out_of_numbers.Statement.{statement}
 use Rattle.flash.proofs.out_of_numbers.Tie as tie

@@ -1,4 +1,4 @@
--- `flash::overflow` meets its contract: the test and its number are the definition's.
+-- `flash::overflow` meets its contract: it puts together what it calls.
 use borrow.Author.Needs.{needs}
 use Rattle.flash.proofs.overflow.Statement.{statement}
 use Rattle.flash.proofs.overflow.Tie as tie

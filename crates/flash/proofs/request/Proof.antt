@@ -1,14 +1,11 @@
 -- `flash::request` meets its contract: a match, spent retries and the seek are tested in the definition's order.
 use borrow.Author.Needs.{needs}
-use mathlib.Core.Path.{sym, _∙_}
-use borrow.Author.Tests.{le-leb, lt-leb, eq-eqb, ne-eqb}
-use Rattle.words.proofs.Choice.{chosen, passed}
 use Rattle.flash.specs.rules.Step.{requested}
+use Rattle.words.proofs.Choice.{chosen, passed}
+use borrow.Author.Tests.{le-leb, lt-leb, eq-eqb, ne-eqb}
+use mathlib.Core.Path.{sym, _∙_}
 use Rattle.flash.proofs.request.Statement.{statement}
 use Rattle.flash.proofs.request.Tie as tie
-
-add-moved : tie.Need-add-moved
-add-moved c = search needs
 
 moved-requires : tie.Need-moved-requires
 moved-requires c κs = search needs
@@ -22,7 +19,7 @@ proceed-requires c κs = search needs
 returns : tie.Need-returns
 unfolding requested
 returns c = rw (c .proceed .ensures, c .before .wrote-none .ensures, c .before .before .moved .ensures)
-    (sym (chosen _ _ _ (eq-eqb _ _ (c .before .before .before .before .if1 .taken))))
+    (sym (chosen _ _ _ (eq-eqb _ _ (c .before .before .before .if1 .taken))))
 
 moved-requires-2 : tie.Need-moved-requires-2
 moved-requires-2 c κs = search needs
@@ -32,7 +29,8 @@ halt-requires c κs = search needs
 
 returns-2 : tie.Need-returns-2
 unfolding requested
-returns-2 c = rw (c .halt .ensures, c .before .moved2 .ensures)
+returns-2 c =
+    rw (c .halt .ensures, c .before .moved2 .ensures)
     (sym (passed _ _ _ (ne-eqb _ _ (c .before .before .before .before .if1 .left)) ∙ chosen _ _ _ (le-leb _ _ (c .before .before .if2 .taken))))
 
 retry-requires : tie.Need-retry-requires
@@ -46,7 +44,6 @@ pub request-spec : {M : Type 1} → statement M
 request-spec =
     tie.close
     (tie.spec
-    add-moved
     moved-requires
     wrote-none-requires
     proceed-requires

@@ -1,7 +1,7 @@
 -- `flash::retry` meets its contract: each arm is one case of where the seek leads.
 use borrow.Author.Needs.{needs}
-use mathlib.Core.Path.{sym, ap, _∙_}
 use Rattle.flash.specs.rules.Step.{soughtAs}
+use mathlib.Core.Path.{sym, ap, _∙_}
 use Rattle.flash.proofs.retry.Statement.{statement}
 use Rattle.flash.proofs.retry.Tie as tie
 
@@ -14,8 +14,8 @@ enum-known-led c = search needs
 moved-requires : tie.Need-moved-requires
 moved-requires c κs = search needs
 
-add-next : tie.Need-add-next
-add-next c = search needs
+add-back : tie.Need-add-back
+add-back c = search needs
 
 wrote-none-requires : tie.Need-wrote-none-requires
 wrote-none-requires c κs = search needs
@@ -33,10 +33,17 @@ halt-requires : tie.Need-halt-requires
 halt-requires c κs = search needs
 
 returns : tie.Need-returns
-returns c = rw (c .proceed .ensures, c .before .wrote-none .ensures, c .before .before .before .moved .ensures) (ap (soughtAs (c .before .before .before .before .before .before .before .before .args .session)) (sym (c .before .before .before .before .before .led .given .1) ∙ c .before .before .before .before .before .before .before .seek .ensures))
+returns c =
+    let a = c .before .before .before .before .before .before .before .before .args in
+    rw (c .proceed .ensures, c .before .wrote-none .ensures, c .before .before .before .moved .ensures)
+    (ap (soughtAs (a .session)) (sym (c .before .before .before .before .before .led .given .1)
+    ∙ c .before .before .before .before .before .before .before .seek .ensures))
 
 returns-2 : tie.Need-returns-2
-returns-2 c = rw (c .halt .ensures, c .before .moved2 .ensures) (ap (soughtAs (c .before .before .before .before .before .before .args .session)) (sym (c .before .before .before .led2 .given .1) ∙ c .before .before .before .before .before .seek .ensures))
+returns-2 c =
+    let a = c .before .before .before .before .before .before .args in
+    rw (c .halt .ensures, c .before .moved2 .ensures) (ap (soughtAs (a .session))
+    (sym (c .before .before .before .led2 .given .1) ∙ c .before .before .before .before .before .seek .ensures))
 
 pub retry-spec : {M : Type 1} → statement M
 retry-spec =
@@ -45,7 +52,7 @@ retry-spec =
     seek-requires
     enum-known-led
     moved-requires
-    add-next
+    add-back
     wrote-none-requires
     proceed-requires
     enum-known-led-2

@@ -1,5 +1,5 @@
 -- One law a call, for every session, memory and image: the offset goes forward past the words of the command, back for a retry, or is kept.
-use Prim.Native.Nat.{ℕ, _+_, _*_, _/_, _%_, _≤_, _<_, min}
+use Prim.Native.Nat.{ℕ, _+_, _*_, _%_, _≤_, _<_, min}
 use mathlib.Core.Bool.{Bool, true, false, _||_}
 use mathlib.Core.List.{List}
 use mathlib.Core.Logic.{_≢_}
@@ -9,7 +9,7 @@ use lib.ListN.{length}
 use Rattle.words.specs.rules.Bytes.{wordAt}
 use Rattle.words.specs.rules.Choice.{pick}
 use Rattle.opcodes.specs.rules.Answers.{codeOf, kindOf}
-use Rattle.opcodes.specs.rules.Opcodes.{lookedUp}
+use Rattle.opcodes.specs.rules.Opcodes.{lookedUp, byWriting}
 use Rattle.opcodes.specs.declared.Command.{Command}
 use Rattle.opcodes.specs.declared.Command.the-variants.{Load, Fill, BootTable, Enable, Disable, Request, StartOver, JumpAndClose, Ping, SequentialRead}
 use Rattle.opcodes.specs.declared.Event.the-variants.{Nothing}
@@ -18,36 +18,33 @@ use Rattle.opcodes.specs.declared.Found.the-variants.{Known, Retired, Unknown}
 use Rattle.opcodes.specs.declared.Mode.the-variants.{Flash}
 use Rattle.opcodes.specs.declared.Refusal.{Refusal}
 use Rattle.opcodes.specs.declared.Refusal.the-variants.{None}
-use Rattle.ledger.specs.rules.Totals.{wouldPass, differs, isSpent, inFlash}
+use Rattle.ledger.specs.rules.Totals.{standing, wouldPass, differs, isSpent, inFlash}
 use Rattle.ledger.specs.declared.Happening.{Happening}
 use Rattle.ledger.specs.declared.Happening.the-variants as happened
+use Rattle.ledger.specs.declared.Standing.{Standing}
 use Rattle.flash.specs.rules.Sessions.{countedOn}
-use Rattle.flash.specs.rules.Step.{wordsFrom, argument, named, stepOf}
+use Rattle.reading.specs.rules.Reading.{wordsFrom, argument, dataWords}
+use Rattle.flash.specs.rules.Step.{stepOf}
 use Rattle.flash.specs.declared.Called.{Called}
 use Rattle.flash.specs.declared.Session.{Session}
 
 -- the data bytes of the command at the session's offset: a load's, by its size
 abbrev pub dataBytes : Command → Session → List ℕ → ℕ
-dataBytes Load s image = argument s image 1
-dataBytes Fill s image = 0
-dataBytes BootTable s image = 0
-dataBytes Enable s image = 0
-dataBytes Disable s image = 0
-dataBytes Request s image = 0
-dataBytes StartOver s image = 0
-dataBytes JumpAndClose s image = 0
-dataBytes Ping s image = 0
-dataBytes SequentialRead s image = 0
+dataBytes command s image = byWriting command (argument image (s .offset) 1) 0 0 0
 
--- its data words: the bytes padded to whole words
-abbrev pub dataWords : Command → Session → List ℕ → ℕ
-dataWords command s image = (dataBytes command s image + 3) / 4
+-- its data words
+abbrev pub dataWordsOf : Command → Session → List ℕ → ℕ
+dataWordsOf command s image = dataWords (dataBytes command s image)
 
 -- the argument words of what the table finds
 abbrev pub argumentWords : Found → ℕ
 argumentWords Unknown = 0
 argumentWords Retired = 0
 argumentWords (Known command words) = words
+
+-- the totals that a close names: sections, then bytes
+abbrev pub named : Session → List ℕ → Standing
+named s image = standing (argument image (s .offset) 1) (argument image (s .offset) 2)
 
 -- what an accepted command that goes forward is to the totals, a load or a fill being of so many bytes
 abbrev pub happening : Command → ℕ → Happening
@@ -74,18 +71,19 @@ Fits s happened.Other = Unit {0}
 -- the opcode and the argument words of the command at the session's offset that an image has
 unfoldable pub met : Session → List ℕ → ℕ
 met s image =
-    min 1 (wordsFrom image (s .offset)) + min (argumentWords (lookedUp (wordAt image (s .offset)) Flash (s .dialect))) (wordsFrom image (s .offset + 4))
+    min (1 + argumentWords (lookedUp (wordAt image (s .offset)) Flash (s .dialect))) (wordsFrom image (s .offset))
 
--- the words of the command at the session's offset, all of them in an image of the opening's length: the opcode, the arguments of its row in the table, its data
+-- the words of the command at the session's offset, all of them in an image of the opening's length: the opcode, the arguments of its row in the table, its
+-- data
 pub record Reads (s : Session) (image : List ℕ) (command : Command) (words : ℕ) : Type 0 where
   pub arguments : ℕ
   pub row : lookedUp (wordAt image (s .offset)) Flash (s .dialect) ≡ Known command arguments
-  pub count : words ≡ 1 + arguments + dataWords command s image
+  pub count : words ≡ 1 + arguments + dataWordsOf command s image
   pub present : s .offset + 4 * words ≤ length image
   pub lent : length image ≡ s .length
 
--- accepted: forward by exactly these words, all of them fetched, the retries kept, the totals told by what the command is to them, none past the largest and no number
--- spent; the session ends exactly where it enters, which Jump & Close alone does, having named the totals
+-- accepted: forward by exactly these words, all of them fetched, the retries kept, the totals told by what the command is to them, none past the largest and no
+-- number spent; the session ends exactly where it enters, which Jump & Close alone does, having named the totals
 pub record Forward (s : Session) (image : List ℕ) (a : Called) : Type 0 where
   pub command : Command
   pub words : ℕ
@@ -94,8 +92,8 @@ pub record Forward (s : Session) (image : List ℕ) (a : Called) : Type 0 where
   pub offset : a .session .offset ≡ s .offset + 4 * words
   pub fetched : a .session .fetched ≡ countedOn (s .fetched) words
   pub retries : a .session .retries ≡ s .retries
-  pub totals : a .session .totals ≡ inFlash (s .dialect) (s .totals) (happening command (argument s image 1))
-  pub fits : Fits s (happening command (argument s image 1))
+  pub totals : a .session .totals ≡ inFlash (s .dialect) (s .totals) (happening command (argument image (s .offset) 1))
+  pub fits : Fits s (happening command (argument image (s .offset) 1))
   pub ended : a .session .ended ≡ eqb (kindOf (a .event)) 3
   pub entering : kindOf (a .event) ≡ 3 → command ≡ JumpAndClose
   pub naming : kindOf (a .event) ≡ 3 → differs (s .dialect) (s .totals) (named s image) ≡ false
@@ -137,7 +135,8 @@ pub data Way (s : Session) (image : List ℕ) (a : Called) : Type 0 where
   back : Back s image a → Way s image a
   kept : Kept s image a → Way s image a
 
--- a call goes one of them; windows, length, limit and dialect never change, 14 is exactly for an ended session, and the offset is reported, 0 where the session is spared
+-- a call goes one of them; windows, length, limit and dialect never change, 14 is exactly for an ended session, and the offset is reported, 0 where the session
+-- is spared
 pub record Call (s : Session) (image : List ℕ) (a : Called) : Type 0 where
   pub way : Way s image a
   pub same-windows : a .session .windows ≡ s .windows

@@ -12,6 +12,7 @@ use Rattle.opcodes.specs.rules.Answers.{codeOf}
 use Rattle.opcodes.specs.declared.Dialect.{Dialect}
 use Rattle.opcodes.specs.declared.Dialect.the-variants.{Am17xx}
 use Rattle.ledger.specs.rules.Totals.{atOpening}
+use Rattle.reading.specs.rules.Reading.{pastWords}
 use Rattle.flash.specs.rules.Opening.{goodLength, openedBy}
 use Rattle.flash.specs.rules.Step.{stepOf}
 use Rattle.flash.specs.declared.Session.{Session}
@@ -23,11 +24,11 @@ pub data Reached : Session → Type 0 where
   called : {s : Session} (lent : record { memory : List ℕ; image : List ℕ }) → Reached s
       → Reached (stepOf s (lent .memory) (lent .image) .answer .session)
 
--- where a call looks for a word: its opcode, its arguments, load data
+-- where a call looks for a word: its opcode, its arguments, load data after so many of them
 pub data Looks (s : Session) : ℕ → Type 0 where
   at-opcode : Looks s (s .offset)
   at-argument : (i : ℕ) → Looks s (s .offset + 4 + 4 * i)
-  at-data : (i : ℕ) → Looks s (s .offset + 12 + 4 * i)
+  at-data : (words i : ℕ) → Looks s (pastWords (s .offset) words + 4 * i)
 
 -- the image has a part of the word at an offset, and not the whole
 pub record Cut (image : List ℕ) (at : ℕ) : Type 0 where

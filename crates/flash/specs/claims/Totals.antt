@@ -2,11 +2,10 @@
 use Prim.Native.Nat.{ℕ}
 use mathlib.Core.List.{List, [], _∷_, _++_}
 use mathlib.Core.Path.{_≡_}
-use lib.Dec.{eqb}
 use Rattle.words.specs.rules.Bytes.{wordAt}
 use Rattle.words.specs.rules.Choice.{pick}
 use Rattle.windows.specs.declared.Window.{Window}
-use Rattle.opcodes.specs.rules.Answers.{codeOf, kindOf}
+use Rattle.opcodes.specs.rules.Answers.{accepted, kindOf}
 use Rattle.opcodes.specs.rules.Opcodes.{lookedUp}
 use Rattle.opcodes.specs.declared.Dialect.the-variants.{Am17xx, Dm648}
 use Rattle.opcodes.specs.declared.Found.{Found}
@@ -17,11 +16,12 @@ use Rattle.ledger.specs.rules.Totals.{nothing, atOpening, numberedAs}
 use Rattle.ledger.specs.declared.Happening.{Happening}
 use Rattle.ledger.specs.declared.Happening.the-variants as happened
 use Rattle.ledger.specs.declared.Totals.{Totals}
-use Rattle.flash.specs.claims.Calls.{happening}
+use Rattle.reading.specs.rules.Reading.{argument}
+use Rattle.flash.specs.claims.Calls.{named, happening}
 use Rattle.flash.specs.rules.Opening.{begun}
 use Rattle.flash.specs.claims.Reached.{Reached}
 use Rattle.flash.specs.rules.Sessions.{withTotals}
-use Rattle.flash.specs.rules.Step.{argument, named, stepOf}
+use Rattle.flash.specs.rules.Step.{stepOf}
 use Rattle.flash.specs.declared.Called.{Called}
 use Rattle.flash.specs.declared.Session.{Session}
 
@@ -57,8 +57,8 @@ sizesFound (Known command arguments) size = sizesIn (happening command size)
 -- the size of the load or fill that a call accepts, where it accepts one
 unfoldable pub acceptedIn : Session → Lent → List ℕ
 acceptedIn s lent =
-    pick (eqb (codeOf (answerTo s lent .refusal)) 0)
-    (sizesFound (lookedUp (wordAt (lent .image) (s .offset)) Flash (s .dialect)) (argument s (lent .image) 1)) []
+    pick (accepted (answerTo s lent .refusal))
+    (sizesFound (lookedUp (wordAt (lent .image) (s .offset)) Flash (s .dialect)) (argument (lent .image) (s .offset) 1)) []
 
 -- of all loads and fills that any calls accept
 unfoldable pub sizesAccepted : Session → List Lent → List ℕ
@@ -81,7 +81,13 @@ EntersOnTotals =
 -- an answer with the totals left out, and not the numbers
 abbrev pub untold : Called → Called
 untold a =
-    record { refusal = a .refusal; event = a .event; at = a .at; session = withTotals (a .session) (numberedAs atOpening (a .session .totals)); wrote = a .wrote }
+    record {
+      refusal = a .refusal;
+      event = a .event;
+      at = a .at;
+      session = withTotals (a .session) (numberedAs atOpening (a .session .totals));
+      wrote = a .wrote;
+    }
 
 pub record Am17xxHasNone : Type 0 where
   -- they stay 0

@@ -8,7 +8,7 @@ use Rattle.words.specs.rules.Bytes.{wordAt}
 use Rattle.words.specs.rules.Choice.{pick}
 use Rattle.windows.specs.rules.Map.{goodMap, keptOf, zeroWindow}
 use Rattle.windows.specs.declared.Window.{Window}
-use Rattle.opcodes.specs.rules.Answers.{codeOf}
+use Rattle.opcodes.specs.rules.Answers.{accepted}
 use Rattle.opcodes.specs.declared.Dialect.{Dialect}
 use Rattle.opcodes.specs.declared.Dialect.the-variants.{Am17xx}
 use Rattle.opcodes.specs.declared.Refusal.{Refusal}
@@ -81,6 +81,6 @@ openedBy dialect count windows image limit =
 -- an opening whose session numbers its commands, from 1; a refused one is as it was
 unfoldable pub numberingFrom : Opened → Opened
 numberingFrom o =
-    pick (eqb (codeOf (o .refusal)) 0)
+    pick (accepted (o .refusal))
     (record { refusal = o .refusal; session = withTotals (o .session) (fromOne (o .session .totals)) })
     o

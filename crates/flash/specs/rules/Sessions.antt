@@ -47,13 +47,13 @@ withTotals s totals = changed s (s .ended) (s .on) (s .checksum) (s .offset) (s 
 abbrev pub goBack : Session → ℕ → Session
 goBack s offset = changed s (s .ended) (s .on) 0 offset (s .retries + 1) (s .fetched) (s .totals)
 
--- the checksum on, its checksum 0, and past the opcode
-abbrev pub switchOn : Session → Session
-switchOn s = changed s (s .ended) true 0 (s .offset + 4) (s .retries) (s .fetched) (s .totals)
+-- the checksum on, its checksum 0, going on at another offset
+abbrev pub switchOn : Session → ℕ → Session
+switchOn s offset = changed s (s .ended) true 0 offset (s .retries) (s .fetched) (s .totals)
 
--- the checksum off, its checksum kept, and past the opcode
-abbrev pub switchOff : Session → Session
-switchOff s = changed s (s .ended) false (s .checksum) (s .offset + 4) (s .retries) (s .fetched) (s .totals)
+-- the checksum off, its checksum kept, going on at another offset
+abbrev pub switchOff : Session → ℕ → Session
+switchOff s offset = changed s (s .ended) false (s .checksum) offset (s .retries) (s .fetched) (s .totals)
 
 -- a count of words with n more, or with as many as 32 bits still hold: it stays at the largest number
 unfoldable pub countedOn : ℕ → ℕ → ℕ
@@ -72,8 +72,8 @@ abbrev pub stopped : Refusal → Session → Called
 stopped q s = record { refusal = q; event = Nothing; at = s .offset; session = stop s; wrote = noneWrote }
 
 -- accepted, with what happened, what was written and an event: the session s goes on as t, its totals turned
-abbrev pub accepted : Session → Happening → Wrote → Event → Session → Called
-accepted s happened wrote told t =
+abbrev pub acceptedAs : Session → Happening → Wrote → Event → Session → Called
+acceptedAs s happened wrote told t =
     record { refusal = None; event = told; at = s .offset; session = withTotals t (inFlash (s .dialect) (s .totals) happened); wrote = wrote }
 
 -- what a call gives: its answer and the memory that it leaves

@@ -1,24 +1,28 @@
--- `flash_runs::run` meets its contract: the calls that are left lead to the same outcome as all of them.
+-- `flash_runs::run` meets its contract: the calls that are left lead to the same outcome, the same numbers and the same offsets as all of them.
 use Prim.Native.Nat.{_+_, _/_, _^_}
-use mathlib.Core.Path.{_≡_, sym, _∙_}
+use mathlib.Core.Path.{_≡_, refl, sym, _∙_}
 use native.Mathlib.Nat.{mul-le-mul}
 use native.Mathlib.Omega.{arith}
 use borrow.Author.Tests.{not-true, not-false}
-use lib.ListN.{length}
-use Rattle.flash.specs.rules.Step.{stepOf}
-use Rattle.flash_runs.specs.rules.Run.{carriedOn, runOf}
+use lib.ListN.{length, take}
 use borrow.Author.Needs.{needs}
-use Rattle.flash_runs.proofs.Calls.{stays, spent, passes, delivers}
+use Rattle.flash.specs.rules.Step.{stepOf}
+use Rattle.flash_runs.specs.rules.Entries.{numberWrote, offsetWrote, stampsOn, runStamps}
+use Rattle.flash_runs.specs.rules.Run.{carriedOn, runOf}
+use Rattle.flash_runs.proofs.Running.{spent, stops, Leads, leads-on, leads-last}
 use Rattle.flash_runs.proofs.run.Statement.{statement}
 use Rattle.flash_runs.proofs.run.Tie as tie
 
 abbrev Inv-loop : tie.InvT-loop
-Inv-loop memory₀ image left₀ live₀ memory left live =
-    (length memory ≡ length memory₀)
-    × (carriedOn left (stepOf live memory image) image ≡ carriedOn left₀ (stepOf live₀ memory₀ image) image)
+Inv-loop count places memory₀ image numbers₀ offsets₀ left₀ live₀ memory numbers offsets left live =
+    let all = take count places in
+    let first = stepOf live₀ memory₀ image in
+    (length memory ≡ length memory₀) × (length numbers ≡ length numbers₀) × (length offsets ≡ length offsets₀)
+    × Leads all image left numbers offsets (stepOf live memory image) (carriedOn left₀ first image) (stampsOn numberWrote left₀ all numbers₀ first image)
+    (stampsOn offsetWrote left₀ all offsets₀ first image)
 
 abbrev μ-loop : tie.MeasureT-loop
-μ-loop memory₀ image left₀ live₀ memory left live = left
+μ-loop count places memory₀ image numbers₀ offsets₀ left₀ live₀ memory numbers offsets left live = left
 
 cast-left : tie.Need-cast-left Inv-loop μ-loop
 cast-left c = search needs
@@ -31,38 +35,51 @@ cast-left-2 c = search needs
 
 mul-left : tie.Need-mul-left Inv-loop μ-loop
 mul-left c =
-    let session = c .before .before .before .before .args .session in
+    let session = c .before .before .before .before .before .before .before .args .session in
     omega (arith, mul-le-mul {n₁ = session .limit + 1} {m₁ = session .length / 4} {n₂ = 256} {m₂ = 2 ^ 30} (omega arith) (omega arith))
 
 loop-holds : tie.Need-loop-holds Inv-loop μ-loop
-loop-holds c = search needs
+loop-holds c = (search needs, search needs, search needs, record { outcome = refl; by-number = refl; by-offset = refl })
 
-step-requires : tie.Need-step-requires Inv-loop μ-loop
-step-requires c κs = search needs
+call-requires : tie.Need-call-requires Inv-loop μ-loop
+call-requires c κs = search needs
 
 same-length : tie.Need-same-length Inv-loop μ-loop
 same-length c = search needs
 
+same-length-2 : tie.Need-same-length-2 Inv-loop μ-loop
+same-length-2 c = search needs
+
+same-length-3 : tie.Need-same-length-3 Inv-loop μ-loop
+same-length-3 c = search needs
+
 returns : tie.Need-returns Inv-loop μ-loop
-unfolding runOf
+unfolding runOf runStamps
 returns c =
-    let step = c .before .before .before .step in
-    let loop = c .before .before .before .before .before .loop in
-    delivers _ (loop .live) (loop .memory) (step .ensures .0) (step .ensures .1) (loop .left) (spent _ _ _ (c .if1 .taken)) (loop .inv .1)
+    let loop = c .before .before .before .before .before .before .before .before .before .before .before .loop in
+    let call = c .before .before .before .before .before .before .before .call .ensures in
+    leads-last _ _ (loop .live) (loop .memory) (call .0) (call .1 .0) (loop .left) (loop .numbers) (loop .offsets) (call .1 .1) (loop .inv .3)
+    (spent (c .if1 .taken))
 
 goes-on-requires : tie.Need-goes-on-requires Inv-loop μ-loop
 goes-on-requires c κs = search needs
 
-same-length-2 : tie.Need-same-length-2 Inv-loop μ-loop
-same-length-2 c = search needs
+same-length-4 : tie.Need-same-length-4 Inv-loop μ-loop
+same-length-4 c = search needs
+
+same-length-5 : tie.Need-same-length-5 Inv-loop μ-loop
+same-length-5 c = search needs
+
+same-length-6 : tie.Need-same-length-6 Inv-loop μ-loop
+same-length-6 c = search needs
 
 returns-2 : tie.Need-returns-2 Inv-loop μ-loop
-unfolding runOf
+unfolding runOf runStamps
 returns-2 c =
-    let step = c .before .before .before .before .before .step in
-    let loop = c .before .before .before .before .before .before .before .loop in
+    let loop = c .before .before .before .before .before .before .before .before .before .before .before .before .before .loop in
+    let call = c .before .before .before .before .before .before .before .before .before .call .ensures in
     let over = sym (c .before .goes-on .ensures) ∙ not-true _ (c .if2 .taken) in
-    delivers _ (loop .live) (loop .memory) (step .ensures .0) (step .ensures .1) (loop .left) (stays _ (loop .left) _ over) (loop .inv .1)
+    leads-last _ _ (loop .live) (loop .memory) (call .0) (call .1 .0) (loop .left) (loop .numbers) (loop .offsets) (call .1 .1) (loop .inv .3) (stops over)
 
 sub-left : tie.Need-sub-left Inv-loop μ-loop
 sub-left c = search needs
@@ -72,11 +89,14 @@ loop-less c = search needs
 
 loop-again : tie.Need-loop-again Inv-loop μ-loop
 loop-again c =
-    let step = c .before .before .before .before .before .before .step in
-    let loop = c .before .before .before .before .before .before .before .before .loop in
+    let loop = c .before .before .before .before .before .before .before .before .before .before .before .before .before .before .loop in
+    let call = c .before .before .before .before .before .before .before .before .before .before .call .ensures in
     let more = sym (c .before .before .goes-on .ensures) ∙ not-false _ (c .before .if2 .left) in (
       search needs,
-      passes _ (loop .live) (loop .memory) (step .ensures .0) (step .ensures .1) (loop .left) (c .before .before .before .if1 .left) more ∙ loop .inv .1,
+      search needs,
+      search needs,
+      leads-on _ _ (loop .live) (loop .memory) (call .0) (call .1 .0) (loop .left) (loop .numbers) (loop .offsets) (call .1 .1) (loop .inv .3)
+          (c .before .before .before .if1 .left) more,
     )
 
 pub run-spec : {M : Type 1} → statement M
@@ -90,11 +110,15 @@ run-spec =
     cast-left-2
     mul-left
     loop-holds
-    step-requires
+    call-requires
     same-length
+    same-length-2
+    same-length-3
     returns
     goes-on-requires
-    same-length-2
+    same-length-4
+    same-length-5
+    same-length-6
     returns-2
     sub-left
     loop-less

@@ -6,13 +6,13 @@ use mathlib.Core.Path.{_≡_}
 use lib.Dec.{eqb}
 use Rattle.words.specs.rules.Bytes.{wordAt}
 use Rattle.words.specs.rules.Choice.{pick}
-use Rattle.opcodes.specs.rules.Answers.{codeOf}
+use Rattle.opcodes.specs.rules.Answers.{accepted, codeOf}
 use Rattle.opcodes.specs.rules.Opcodes.{lookedUp}
 use Rattle.opcodes.specs.declared.Found.{Found}
 use Rattle.opcodes.specs.declared.Found.the-variants.{Known, Retired, Unknown}
 use Rattle.opcodes.specs.declared.Mode.the-variants.{Flash}
 use Rattle.opcodes.specs.declared.Refusal.{Refusal}
-use Rattle.flash.specs.claims.Calls.{dataWords, met, spares}
+use Rattle.flash.specs.claims.Calls.{dataWordsOf, met, spares}
 use Rattle.flash.specs.rules.Opening.{openedBy}
 use Rattle.flash.specs.claims.Reached.{Reached, opened, called}
 use Rattle.flash.specs.rules.Sessions.{countedOn}
@@ -27,14 +27,14 @@ openingFetches q = pick (eqb (codeOf q) 1 || eqb (codeOf q) 3) 0 1
 abbrev pub loadWords : Found → Session → List ℕ → ℕ
 loadWords Unknown s image = 0
 loadWords Retired s image = 0
-loadWords (Known command arguments) s image = dataWords command s image
+loadWords (Known command arguments) s image = dataWordsOf command s image
 
 -- a call on an image, by its refusal: each opcode and argument word present when its command is met, and the data words of an accepted load; none where it
 -- is refused with 2, 3 or 14
 unfoldable pub callFetches : Session → List ℕ → Refusal → ℕ
 callFetches s image q =
     pick (spares q) 0
-    (met s image + pick (eqb (codeOf q) 0) (loadWords (lookedUp (wordAt image (s .offset)) Flash (s .dialect)) s image) 0)
+    (met s image + pick (accepted q) (loadWords (lookedUp (wordAt image (s .offset)) Flash (s .dialect)) s image) 0)
 
 -- the sum over an opening and any calls, each on the image as it was lent
 unfoldable pub prescribed : {s : Session} → Reached s → ℕ

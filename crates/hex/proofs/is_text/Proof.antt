@@ -10,6 +10,7 @@ use lib.Dec.{eqb}
 use lib.ListN.{length, getD, drop, drop-of-length-le}
 use lib.Seq.{drop-cons}
 use denote.Ref.{now}
+use Rattle.digits.specs.rules.Numbers.{areDigits}
 use Rattle.hex.specs.rules.Text.{allDigits}
 use Rattle.hex.proofs.Texts.{looked}
 use Rattle.hex.proofs.is_text.Statement.{statement}
@@ -40,7 +41,7 @@ loop-less : tie.Need-loop-less Inv-loop μ-loop
 loop-less c = search needs
 
 loop-again : tie.Need-loop-again Inv-loop μ-loop
-unfolding allDigits
+unfolding areDigits
 loop-again c =
     let l = c .before .before .before .before .loop in
     let text = now (c .before .before .before .before .before .before .args .text) in
@@ -53,7 +54,7 @@ loop-again c =
     )
 
 returns : tie.Need-returns Inv-loop μ-loop
-unfolding allDigits
+unfolding areDigits
 returns c =
     let l = c .before .loop in
     let text = now (c .before .before .before .args .text) in

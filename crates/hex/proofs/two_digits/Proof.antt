@@ -4,7 +4,8 @@ use Prim.Native.Nat.{_+_}
 use mathlib.Core.Path.{sym, _∙_}
 use native.Mathlib.Omega.{arith}
 use denote.Ref.{now}
-use Rattle.hex.proofs.Texts.{digit-in, word-parts, one-digit}
+use Rattle.digits.proofs.Numbers.{digit-in}
+use Rattle.hex.proofs.Texts.{word-parts, one-digit}
 use Rattle.hex.proofs.two_digits.Statement.{statement}
 use Rattle.hex.proofs.two_digits.Tie as tie
 
@@ -12,7 +13,7 @@ shared-slice-read-value : tie.Need-shared-slice-read-value
 shared-slice-read-value c = search needs
 
 value-requires : tie.Need-value-requires
-value-requires c κs = digit-in _ _ (c .before .before .pre .0) (omega arith)
+value-requires c κs = digit-in 16 _ _ (c .before .before .pre .0) (omega arith)
 
 mul-result : tie.Need-mul-result
 mul-result c = search needs
@@ -24,7 +25,7 @@ shared-slice-read-value-2 : tie.Need-shared-slice-read-value-2
 shared-slice-read-value-2 c = search needs
 
 value-requires-2 : tie.Need-value-requires-2
-value-requires-2 c κs = digit-in _ _ (c .before .before .before .before .pre .0) (omega arith)
+value-requires-2 c κs = digit-in 16 _ _ (c .before .before .before .before .pre .0) (omega arith)
 
 add-result : tie.Need-add-result
 add-result c = search needs

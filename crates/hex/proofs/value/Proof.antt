@@ -1,7 +1,7 @@
 -- `hex::value` meets its contract: of each of the three kinds of digit the sum is the value.
 use borrow.Author.Needs.{needs}
 use native.Mathlib.Omega.{arith}
-use Rattle.hex.proofs.Digits.{by-digit}
+use Rattle.digits.proofs.Digits.{by-digit}
 use Rattle.hex.proofs.value.Statement.{statement}
 use Rattle.hex.proofs.value.Tie as tie
 

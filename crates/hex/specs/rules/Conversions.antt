@@ -5,7 +5,7 @@ use mathlib.Core.Path.{_≡_}
 use lib.Dec.{eqb}
 use lib.ListN.{length, getD, take}
 use Rattle.words.specs.rules.Choice.{pick}
-use Rattle.opcodes.specs.rules.Answers.{codeOf}
+use Rattle.opcodes.specs.rules.Answers.{accepted}
 use Rattle.opcodes.specs.declared.Refusal.{Refusal}
 use Rattle.hex.specs.rules.Text.{imageOf, textOf, readAnswer, writeAnswer}
 use Rattle.hex.specs.declared.conversions.Converted.{Converted}
@@ -19,7 +19,7 @@ textOfFile file = take (textEnd file) file
 
 -- an answer, and the length of the result; 0 where it is refused
 unfoldable pub concluded : Refusal → List ℕ → Converted
-concluded answer result = record { refusal = answer; length = pick (eqb (codeOf answer) 0) (length result) 0 }
+concluded answer result = record { refusal = answer; length = pick (accepted answer) (length result) 0 }
 
 abbrev pub toText : List ℕ → List ℕ → Converted
 toText image room = concluded (writeAnswer image room) (textOf image)

@@ -1,15 +1,16 @@
 -- A text of digits and its image, word by word; when reading and writing are refused, and what they leave in the room.
 use Prim.Native.Nat.{ℕ, zero, suc, _/_, _%_}
-use mathlib.Core.Bool.{Bool, true, not, _&&_}
-use mathlib.Core.List.{List, [], _∷_, _++_}
+use mathlib.Core.Bool.{Bool, not}
+use mathlib.Core.List.{List, [], _++_}
 use lib.Dec.{eqb, ltb}
 use lib.ListN.{length, take, drop}
 use Rattle.words.specs.rules.Bytes.{number}
 use Rattle.words.specs.rules.Choice.{pick}
-use Rattle.opcodes.specs.rules.Answers.{codeOf}
+use Rattle.opcodes.specs.rules.Answers.{accepted}
 use Rattle.opcodes.specs.declared.Refusal.{Refusal}
 use Rattle.opcodes.specs.declared.Refusal.the-variants as refusal
-use Rattle.hex.specs.rules.Digits.{isDigit, digitsOf, wordOf, bytesOf}
+use Rattle.digits.specs.rules.Numbers.{areDigits}
+use Rattle.hex.specs.rules.Digits.{digitsOf, wordOf, bytesOf}
 
 -- the first n words of a list, each of so many elements, turned one after the other
 unfoldable pub eachWord : ℕ → (List ℕ → List ℕ) → ℕ → List ℕ → List ℕ
@@ -32,10 +33,9 @@ imageOf text = eachWord 8 readWord (length text / 8) text
 unfoldable pub textOf : List ℕ → List ℕ
 textOf image = eachWord 4 writtenWord (length image / 4) image
 
--- is every character a digit?
-unfoldable pub allDigits : List ℕ → Bool
-allDigits [] = true
-allDigits (c ∷ cs) = isDigit c && allDigits cs
+-- is every character a hexadecimal digit?
+abbrev pub allDigits : List ℕ → Bool
+allDigits = areDigits 16
 
 -- reading a text into a room: 21, 22, 23, in this order
 unfoldable pub readAnswer : List ℕ → List ℕ → Refusal
@@ -56,7 +56,7 @@ laid result room = result ++ drop (length result) room
 
 -- what an answer leaves in the room: the result, or the room as it was where it is a refusal
 unfoldable pub leftBy : Refusal → List ℕ → List ℕ → List ℕ
-leftBy answer result room = pick (eqb (codeOf answer) 0) (laid result room) room
+leftBy answer result room = pick (accepted answer) (laid result room) room
 
 -- the room after a text was read into it, and after an image was written into it
 abbrev pub readRoom : List ℕ → List ℕ → List ℕ

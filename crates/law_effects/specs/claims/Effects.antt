@@ -1,8 +1,8 @@
 -- What Load, Fill and Boot Table do to memory, bit by bit (01, "Commands"): which bits a command writes and what they become, whatever memory
 -- held before.
 use Prim.Native.Nat.{ℕ, _+_, _-_, _*_, _/_, _%_, _≤_, _<_}
-use mathlib.Core.Bool.{Bool}
-use mathlib.Core.List.{List}
+use mathlib.Core.Bool.{Bool, false, _||_}
+use mathlib.Core.List.{List, [], _∷_}
 use mathlib.Core.Path.{_≡_}
 use lib.ListN.{length, getD}
 use Rattle.words.specs.rules.Bits.{bit, within}
@@ -26,6 +26,11 @@ writes e p = within (e .first) (e .count) p
 -- what bit p becomes where it is written
 abbrev pub becomes : Effect → ℕ → ℕ
 becomes e p = e .gives (p - e .first)
+
+-- does one of several write it?
+unfoldable pub someWrites : List Effect → ℕ → Bool
+someWrites [] p = false
+someWrites (e ∷ es) p = writes e p || someWrites es p
 
 -- no bit is written
 abbrev pub noEffect : Effect

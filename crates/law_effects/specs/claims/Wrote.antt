@@ -5,7 +5,8 @@ use mathlib.Core.Path.{_≡_}
 use lib.ListN.{length}
 use Rattle.windows.specs.rules.Window.{sumOf}
 use Rattle.windows.specs.declared.Window.{Window}
-use Rattle.commands.specs.rules.Commands.{loadJudged, loaded, fillJudged, fillMemory, settingJudged, settingMemory}
+use Rattle.commands.specs.rules.Commands.{loadJudged, fillJudged, fillMemory, settingJudged, settingMemory}
+use Rattle.stores.specs.rules.Stores.{loaded}
 use Rattle.commands.specs.rules.Wrote.{firstBit, noneWrote, bytesWrote, settingWrote}
 use Rattle.commands.specs.declared.Judged.the-variants.{Granted}
 use Rattle.commands.specs.declared.Wrote.{Wrote}
@@ -29,4 +30,5 @@ pub record CommandsTell : Type 0 where
   pub fill : (windows : List Window) (m : List ℕ) → length m ≡ sumOf windows → (address size kind pattern place number : ℕ)
       → fillJudged windows address size kind ≡ Granted place → Tells (bytesWrote (Granted place) size number) m (fillMemory (Granted place) m size kind pattern)
   pub setting : (windows : List Window) (m : List ℕ) → length m ≡ sumOf windows → (word address value place number : ℕ)
-      → settingJudged windows word address value ≡ Granted place → Tells (settingWrote (Granted place) word number) m (settingMemory (Granted place) m word value)
+      → settingJudged windows word address value ≡ Granted place
+      → Tells (settingWrote (Granted place) word number) m (settingMemory (Granted place) m word value)

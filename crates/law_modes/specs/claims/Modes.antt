@@ -1,5 +1,5 @@
 -- Both modes do the same with the same words: one call on a command in an image, and the words of that command sent.
-use Prim.Native.Nat.{ℕ, zero, suc, _+_, _*_, _/_, _≤_, _<_}
+use Prim.Native.Nat.{ℕ, zero, suc, _+_, _*_, _≤_, _<_}
 use mathlib.Core.Bool.{true, false, _&&_}
 use mathlib.Core.List.{List, [], _∷_, _++_}
 use mathlib.Core.Path.{_≡_}
@@ -16,12 +16,13 @@ use Rattle.opcodes.specs.declared.Found.the-variants.{Known}
 use Rattle.opcodes.specs.declared.Mode.the-variants.{Flash, Sent}
 use Rattle.opcodes.specs.declared.Refusal.{Refusal}
 use Rattle.ledger.specs.rules.Totals.{isSpent, settled}
+use Rattle.reading.specs.rules.Reading.{pastWords, argument, dataWords}
 use Rattle.commands.specs.rules.Commands.{loadJudged}
 use Rattle.commands.specs.declared.Judged.{Judged}
 use Rattle.commands.specs.declared.Judged.the-variants.{Granted, Refused}
 use Rattle.flash.specs.rules.Opening.{goodLength}
 use Rattle.flash.specs.rules.Sessions as flash
-use Rattle.flash.specs.rules.Step.{argument, overflowing, requested, stepOf}
+use Rattle.flash.specs.rules.Step.{overflowing, requested, stepOf}
 use Rattle.flash.specs.declared.Session.{Session}
 use Rattle.machine.specs.rules.Machine as machine
 use Rattle.machine.specs.rules.Machine.{said, _leaving_, withChecksum, begun, await, wordStep}
@@ -30,8 +31,8 @@ use Rattle.machine.specs.claims.Words.{afterWords}
 use Rattle.machine.specs.declared.Core.{Core}
 use Rattle.machine.specs.declared.Phase.the-variants.{Opcode}
 
--- a flash session and a sent one agree in all that both have: the windows, the dialect, the end, the switch, the checksum, and the totals once a Request that stands
--- is settled
+-- a flash session and a sent one agree in all that both have: the windows, the dialect, the end, the switch, the checksum, and the totals once a Request that
+-- stands is settled
 pub record Alike (s : Session) (k : Core) : Type 0 where
   pub windows : s .windows ≡ k .windows
   pub dialect : s .dialect ≡ k .dialect
@@ -72,30 +73,31 @@ module _ (s : Session) (m image : List ℕ) (k : Core) where
 
   -- Load: refused at its size word; or granted, with its data
   abbrev pub loadSize : ℕ
-  loadSize = argument s image 1
+  loadSize = argument image (s .offset) 1
 
   abbrev pub loadIs : Judged
-  loadIs = overflowing s loadSize (loadJudged (s .windows) (argument s image 0) loadSize)
+  loadIs = overflowing s loadSize (loadJudged (s .windows) (argument image (s .offset) 0) loadSize)
 
   pub record SameLoad : Type 0 where
     pub refused : (q : Refusal) → loadIs ≡ Refused q → Same (stepOf s m image) (sentWith (wordsAt image (s .offset + 4) 2))
     -- or without a number, its data there
-    pub spent : (place : ℕ) → loadIs ≡ Granted place → isSpent (s .totals) ≡ true → s .offset + 12 + 4 * ((loadSize + 3) / 4) ≤ length image
+    pub spent : (place : ℕ) → loadIs ≡ Granted place → isSpent (s .totals) ≡ true → pastWords (s .offset) 2 + 4 * dataWords loadSize ≤ length image
         → Same (stepOf s m image) (sentWith (wordsAt image (s .offset + 4) 2))
-    pub granted : (place : ℕ) → loadIs ≡ Granted place → isSpent (s .totals) ≡ false → s .offset + 12 + 4 * ((loadSize + 3) / 4) ≤ length image
-        → Same (stepOf s m image) (sentWith (wordsAt image (s .offset + 4) 2 ++ wordsAt image (s .offset + 12) ((loadSize + 3) / 4)))
+    pub granted : (place : ℕ) → loadIs ≡ Granted place → isSpent (s .totals) ≡ false → pastWords (s .offset) 2 + 4 * dataWords loadSize ≤ length image
+        → Same (stepOf s m image) (sentWith (wordsAt image (s .offset + 4) 2 ++ wordsAt image (pastWords (s .offset) 2) (dataWords loadSize)))
 
   -- Request differs. Sent, it has no argument: the checksum is said and becomes 0, the Request stands unsettled, and the session goes on
   abbrev pub requestSent : machine.WordOutcome
   requestSent =
       said (wordThen (acknowledged opcodeAt) (oneWord (k .tally .checksum))) (await (begun Request k) (withChecksum (begun Request k) 0) Opcode) leaving m
 
-  -- in flash mode it has two, the expected value and the seek, and so three words are fetched. A match comes to the same; a mismatch goes back or ends the session, as `requested` says,
-  -- and differs in nothing else: memory, event, switch, and the checksum, which is 0 either way
+  -- in flash mode it has two, the expected value and the seek, and so three words are fetched. A match comes to the same; a mismatch goes back or ends the
+  -- session, as `requested` says, and differs in nothing else: memory, event, switch, and the checksum, which is 0 either way
   pub record RequestByMode : Type 0 where
     pub sent : wordStep k m opcodeAt ≡ requestSent
-    pub answer : stepOf s m image .answer ≡ requested (flash.fetching 3 s) (argument s image 0) (argument s image 1)
-    pub match : argument s image 0 ≡ s .checksum → Same (stepOf s m image) requestSent
+    pub answer : stepOf s m image .answer ≡ requested (flash.fetching 3 s) (pastWords (s .offset) 2) (argument image (s .offset) 0)
+        (argument image (s .offset) 1)
+    pub match : argument image (s .offset) 0 ≡ s .checksum → Same (stepOf s m image) requestSent
     pub memory : stepOf s m image .memory ≡ requestSent .memory
     pub event : stepOf s m image .answer .event ≡ requestSent .answer .event
     pub on : stepOf s m image .answer .session .on ≡ requestSent .answer .core .on
@@ -110,12 +112,12 @@ pub record RowsOf (dialect : Dialect) (opcode : ℕ) (command : Command) (flash 
 pub record BothModes : Type 0 where
   pub commands : (s : Session) (m image : List ℕ) (k : Core) → Before s m image k
       → (command : Command) (words : ℕ) → (command ≡ Load → ⊥) → RowsOf (k .dialect) (opcodeAt s m image k) command words words
-      → s .offset + 4 + 4 * words ≤ length image
+      → pastWords (s .offset) words ≤ length image
       → Same (stepOf s m image) (sentWith s m image k (wordsAt image (s .offset + 4) words))
   pub load : (s : Session) (m image : List ℕ) (k : Core) → Before s m image k
-      → RowsOf (k .dialect) (opcodeAt s m image k) Load 2 2 → s .offset + 12 ≤ length image → SameLoad s m image k
+      → RowsOf (k .dialect) (opcodeAt s m image k) Load 2 2 → pastWords (s .offset) 2 ≤ length image → SameLoad s m image k
   pub request : (s : Session) (m image : List ℕ) (k : Core) → Before s m image k
-      → RowsOf (k .dialect) (opcodeAt s m image k) Request 2 0 → s .offset + 12 ≤ length image → RequestByMode s m image k
+      → RowsOf (k .dialect) (opcodeAt s m image k) Request 2 0 → pastWords (s .offset) 2 ≤ length image → RequestByMode s m image k
 
 -- which these are
 pub record SharedRows : Type 0 where

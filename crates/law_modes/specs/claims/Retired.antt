@@ -18,7 +18,8 @@ use Rattle.machine.specs.declared.Core.{Core}
 use Rattle.machine.specs.declared.Phase.the-variants.{Opcode}
 
 pub record JumpRefused : Type 0 where
-  -- a call on it, whatever stands after it in the image, also nothing: 15 at its offset, no event, the session ended, its one word counted and nothing else of it changed
+  -- a call on it, whatever stands after it in the image, also nothing: 15 at its offset, no event, the session ended, its one word counted and nothing else of
+  -- it changed
   pub called : (s : Session) (m image : List ℕ) → s .ended ≡ false → length m ≡ sumOf (s .windows)
       → (goodLength (length image) && eqb (length image) (s .length)) ≡ true → s .offset + 4 ≤ length image
       → wordAt image (s .offset) ≡ 0x58535905

@@ -1,4 +1,5 @@
--- Numbers in flash mode (02, request 6): an opening without them leads to none, and where they are kept they change nothing until there are no more, which is 25.
+-- Numbers in flash mode (02, request 6): an opening without them leads to none, and where they are kept they change nothing until there are no more, which is
+-- 25.
 use Prim.Native.Nat.{ℕ}
 use mathlib.Core.Bool.{Bool, true, false}
 use mathlib.Core.List.{List}

@@ -1,4 +1,5 @@
--- Numbers in sent mode (02, request 6): an opening without them leads to none, and where they are kept they change nothing until there are no more, which is 25.
+-- Numbers in sent mode (02, request 6): an opening without them leads to none, and where they are kept they change nothing until there are no more, which is
+-- 25.
 use Prim.Native.Nat.{ℕ, _-_}
 use mathlib.Core.Bool.{Bool, true, false, _&&_}
 use mathlib.Core.List.{List, [], _∷_}
@@ -89,10 +90,12 @@ opened bus dialect count windows m = record { session = openedBy bus dialect cou
 
 pub record OnLine : Type 0 where
   -- whatever units follow it, there are no numbers and there is no 25
-  pub none : (bus : Bus) (dialect : Dialect) (count : ℕ) (windows : List Window) (m units : List ℕ) → KeepsNone (totals (fed bus (opened bus dialect count windows m) units))
+  pub none : (bus : Bus) (dialect : Dialect) (count : ℕ) (windows : List Window) (m units : List ℕ)
+      → KeepsNone (totals (fed bus (opened bus dialect count windows m) units))
   pub never : (bus : Bus) (dialect : Dialect) (count : ℕ) (windows : List Window) (m units : List ℕ) → NoneSpent bus (opened bus dialect count windows m) units
   -- a word that is not answered 25 is answered as without the numbers
-  pub word : (k : Core) (m : List ℕ) (word : ℕ) → codeOf (wordStep k m word .answer .refusal) ≢ 25 → plainOutcome (wordStep k m word) ≡ wordStep (plain k) m word
+  pub word : (k : Core) (m : List ℕ) (word : ℕ) → codeOf (wordStep k m word .answer .refusal) ≢ 25
+      → plainOutcome (wordStep k m word) ≡ wordStep (plain k) m word
   -- so is a unit, and so are any units as long as none is
   pub unit : (bus : Bus) (s : Session) (m : List ℕ) (u : ℕ) → codeOf (unitStep bus s m u .answer .refusal) ≢ 25
       → plainUnit (unitStep bus s m u) ≡ unitStep bus (plainSession s) m u

@@ -1,5 +1,5 @@
--- Demand 3 with the entries (02, request 6), for either line: an abandoned attempt, once what follows writes every bit that it wrote, leaves no trace in the numbers
--- beside chosen words, whatever words are chosen and whatever their entries were. The attempt's numbers are free again, and what follows takes them.
+-- Demand 3 with the entries (02, request 6), for either line: an abandoned attempt, once what follows writes every bit that it wrote, leaves no trace in the
+-- numbers beside chosen words, whatever words are chosen and whatever their entries were. The attempt's numbers are free again, and what follows takes them.
 use Prim.Native.Nat.{ℕ}
 use mathlib.Core.List.{List, _∷_, _++_}
 use mathlib.Core.Path.{_≡_}

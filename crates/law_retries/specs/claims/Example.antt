@@ -20,7 +20,8 @@ use Rattle.machine.specs.rules.Replies.{silence}
 use Rattle.sent.specs.declared.Bus.{Bus}
 use Rattle.sent.specs.declared.Bus.the-variants.{Bytes}
 use Rattle.law_retries.specs.claims.Pieces.{Piece, load, setting, enableOpcode, requestOpcode, wordsOf, allWords, Covers}
-use Rattle.law_retries.specs.claims.Retries.{after, Awaits, Begins, sinceOpening, Reached, AtStart, JustAfter, Attempt, attemptWords, NoTrace, Accepted, Retried}
+use Rattle.law_retries.specs.claims.Retries.{after, Awaits, Begins, sinceOpening, Reached, AtStart, JustAfter, Attempt, attemptWords, NoTrace, Accepted}
+use Rattle.law_retries.specs.claims.Retries.{Retried}
 
 -- a window of eight bytes, and what they hold
 abbrev pub windows : List Window
@@ -82,7 +83,8 @@ pub record OneBitMissed : Type 0 where
   pub accepted : Accepted Bytes (start Bytes Am17xx) (attemptWords abandoned) (abandoned .pieces) missing
   pub trace : NoTrace Bytes (start Bytes Am17xx) (attemptWords abandoned) (allWords missing) → ⊥
 
--- an attempt begins after a load, so that the checksum is not 0, and all else is met (in AM17xx with no numbers kept, where the totals are level): Start-Over takes the load back from the checksum
+-- an attempt begins after a load, so that the checksum is not 0, and all else is met (in AM17xx with no numbers kept, where the totals are level): Start-Over
+-- takes the load back from the checksum
 unfoldable pub middle : State
 middle = after Bytes (startTo false Bytes Am17xx) (wordsOf (load 0x80000004 3 (0xEE030201 ∷ [])))
 
@@ -106,7 +108,8 @@ pub record StartOverAlone : Type 0 where
   pub covered : Covers windows [] repeated
   pub trace : NoTrace Bytes requested (attemptWords nothing) (allWords repeated) → ⊥
 
--- an attempt begins after a load with the checksum off, so that the totals are not the mark, no numbers are kept, and all else is met: Start-Over takes the load back from them
+-- an attempt begins after a load with the checksum off, so that the totals are not the mark, no numbers are kept, and all else is met: Start-Over takes the
+-- load back from them
 unfoldable pub unmarked : State
 unmarked = after Bytes (startedTo false Bytes Dm648) (wordsOf (load 0x80000004 3 (0xEE030201 ∷ [])))
 

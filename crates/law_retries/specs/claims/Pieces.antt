@@ -1,6 +1,6 @@
 -- Loads, fills and settings as they are sent, and the bits that they write.
 use Prim.Native.Nat.{ℕ, _+_, _/_, _<_, _^_}
-use mathlib.Core.Bool.{Bool, true, false, _||_}
+use mathlib.Core.Bool.{Bool, true}
 use mathlib.Core.List.{List, [], _∷_, _++_}
 use mathlib.Core.Path.{_≡_}
 use lib.ListN.{length, take}
@@ -8,7 +8,7 @@ use Rattle.windows.specs.declared.Window.{Window}
 use Rattle.commands.specs.rules.Commands.{loadJudged, unitOf, fillJudged, shapeOf, settingJudged}
 use Rattle.commands.specs.declared.Judged.{Judged}
 use Rattle.commands.specs.declared.Judged.the-variants.{Granted, Refused}
-use Rattle.law_effects.specs.claims.Effects.{Effect, writes, noEffect, loadEffect, fillEffect, settingEffect}
+use Rattle.law_effects.specs.claims.Effects.{Effect, noEffect, loadEffect, fillEffect, settingEffect, someWrites}
 use Rattle.words.specs.rules.Bytes.{wordsBytes}
 
 -- the opcodes that are sent here
@@ -90,11 +90,15 @@ effectIf (Refused q) c = noEffect
 unfoldable pub effectOf : List Window → Piece → Effect
 effectOf windows c = effectIf (judgedOf windows c) c
 
--- does one of several commands write bit p?
-unfoldable pub someWrites : List Window → List Piece → ℕ → Bool
-someWrites windows [] p = false
-someWrites windows (c ∷ cs) p = writes (effectOf windows c) p || someWrites windows cs p
+-- so of several commands
+abbrev pub effectsOf : List Window → List Piece → List Effect
+effectsOf windows [] = []
+effectsOf windows (c ∷ cs) = effectOf windows c ∷ effectsOf windows cs
+
+-- does one of them write bit p?
+abbrev pub anyWrites : List Window → List Piece → ℕ → Bool
+anyWrites windows cs p = someWrites (effectsOf windows cs) p
 
 -- what follows writes every bit that the attempt wrote
 abbrev pub Covers : List Window → List Piece → List Piece → Type 0
-Covers windows attempt following = (p : ℕ) → someWrites windows attempt p ≡ true → someWrites windows following p ≡ true
+Covers windows attempt following = (p : ℕ) → anyWrites windows attempt p ≡ true → anyWrites windows following p ≡ true

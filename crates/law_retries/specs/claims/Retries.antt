@@ -148,8 +148,8 @@ Reports bus x number =
     map (λ (h : Heard). h .reply) (answers bus x (unitsOf bus requestOpcode))
     ≡ replicate (unitsInWord bus - 1) silence ++ (wordThen (acknowledged requestOpcode) (oneWord number) ∷ [])
 
--- some words leave no trace once others follow: memory, checksum, totals, next number and the whole session are those of the others alone, and so is every answer from
--- there on, also to any further units; a Request that comes next reports that checksum
+-- some words leave no trace once others follow: memory, checksum, totals, next number and the whole session are those of the others alone, and so is every
+-- answer from there on, also to any further units; a Request that comes next reports that checksum
 pub record NoTrace (bus : Bus) (x : State) (attempt following : List ℕ) : Type 0 where
   pub same-state : after bus x (attempt ++ following) ≡ after bus x following
   pub same-answers : (further : List ℕ)

@@ -9,7 +9,8 @@ use Rattle.opcodes.specs.declared.Command.{Command}
 use Rattle.opcodes.specs.declared.Command.the-variants as command
 use Rattle.opcodes.specs.declared.Dialect.{Dialect}
 use Rattle.opcodes.specs.declared.Dialect.the-variants.{Am17xx}
-use Rattle.ledger.specs.rules.Totals.{standing, nothing, fromOne, isPast, isOther, oneMore, counted, firstSpent, isSpent, numbered, settled, turned, inFlash}
+use Rattle.ledger.specs.rules.Totals.{standing, nothing, fromOne, isPast, isOther, oneMore, counted, firstSpent, isSpent, numbered, settled, turned}
+use Rattle.ledger.specs.rules.Totals.{inFlash}
 use Rattle.ledger.specs.declared.Happening.{Happening}
 use Rattle.ledger.specs.declared.Happening.the-variants as happening
 use Rattle.ledger.specs.declared.Standing.{Standing}

@@ -1,4 +1,5 @@
--- What an abandoned attempt leaves of the totals and of the next number (02, requests 5 and 6, and demand 3): nothing, where it begins at a point that a retry goes back to.
+-- What an abandoned attempt leaves of the totals and of the next number (02, requests 5 and 6, and demand 3): nothing, where it begins at a point that a retry
+-- goes back to.
 use Prim.Native.Nat.{ℕ}
 use mathlib.Core.Bool.{Bool, true, false}
 use mathlib.Core.List.{List, [], _∷_}

@@ -15,8 +15,11 @@ same-length c = search needs
 
 returns : tie.Need-returns
 returns c =
-    let done = sym (chosen _ _ _ (eq-eqb _ _ (c .before .before .before .before .if1 .taken))) in
-    (c .before .before .perform .ensures .0 ∙ ap (λ (o : WordOutcome). o .answer) done, c .before .before .perform .ensures .1 ∙ ap (λ (o : WordOutcome). o .memory) done)
+    let done = sym (chosen _ _ _ (eq-eqb _ _ (c .before .before .before .before .if1 .taken))) in (
+      c .before .before .perform .ensures .0 ∙ ap (λ (o : WordOutcome). o .answer) done,
+      c .before .before .perform .ensures .1
+          ∙ ap (λ (o : WordOutcome). o .memory) done,
+    )
 
 keep-requires : tie.Need-keep-requires
 keep-requires c κs = search needs

@@ -29,9 +29,13 @@ same-length c = search needs
 
 returns : tie.Need-returns
 returns c =
-    let judged = rw (c .before .before .before .before .before .before .before .before .before .before .judge-setting .ensures) at (c .before .before .before .before .before .before .before .before .before .judge-number .ensures) in
-    let done = rw judged at (c .before .before .before .before .before .before .before .boot-table .ensures) in
-    (rw (c .before .wrote-setting .ensures, c .before .before .finish .ensures, done .0, c .before .before .before .number .ensures, judged) at (c .tell-wrote .ensures), done .1)
+    let judged = rw (c .before .before .before .before .before .before .before .before .before .before .judge-setting .ensures) at
+    (c .before .before .before .before .before .before .before .before .before .judge-number .ensures) in
+    let done = rw judged at (c .before .before .before .before .before .before .before .boot-table .ensures) in (
+      rw (c .before .wrote-setting .ensures, c .before .before .finish .ensures, done .0, c .before .before .before .number .ensures, judged) at
+          (c .tell-wrote .ensures),
+      done .1,
+    )
 
 pub boot-table-spec : {M : Type 1} → statement M
 boot-table-spec =

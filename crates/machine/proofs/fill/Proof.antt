@@ -29,9 +29,13 @@ same-length c = search needs
 
 returns : tie.Need-returns
 returns c =
-    let judged = rw (c .before .before .before .before .before .before .before .before .before .before .judge-fill .ensures) at (c .before .before .before .before .before .before .before .before .before .judge-count .ensures) in
-    let done = rw judged at (c .before .before .before .before .before .before .before .fill .ensures) in
-    (rw (c .before .wrote-bytes .ensures, c .before .before .finish .ensures, done .0, c .before .before .before .count-on .ensures, judged) at (c .tell-wrote .ensures), done .1)
+    let judged = rw (c .before .before .before .before .before .before .before .before .before .before .judge-fill .ensures) at
+    (c .before .before .before .before .before .before .before .before .before .judge-count .ensures) in
+    let done = rw judged at (c .before .before .before .before .before .before .before .fill .ensures) in (
+      rw (c .before .wrote-bytes .ensures, c .before .before .finish .ensures, done .0, c .before .before .before .count-on .ensures, judged) at
+          (c .tell-wrote .ensures),
+      done .1,
+    )
 
 pub fill-spec : {M : Type 1} → statement M
 fill-spec =

@@ -20,7 +20,13 @@ enter-requires c κs = search needs
 
 returns : tie.Need-returns
 returns c =
-    rw (c .enter .ensures, c .before .finish .ensures, c .before .before .jump-and-close .ensures, c .before .before .before .judge-close .ensures, c .before .before .before .before .entry-of .ensures)
+    rw (
+      c .enter .ensures,
+      c .before .finish .ensures,
+      c .before .before .jump-and-close .ensures,
+      c .before .before .before .judge-close .ensures,
+      c .before .before .before .before .entry-of .ensures,
+    )
 
 pub jump-and-close-spec : {M : Type 1} → statement M
 jump-and-close-spec =

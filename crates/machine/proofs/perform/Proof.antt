@@ -82,8 +82,11 @@ refuse-requires c κs = search needs
 returns : tie.Need-returns
 returns c =
     let a = c .before .before .before .before .before .args in
-    let known = c .before .enum-told .given .1 in
-    (c .begin-load .ensures ∙ known-answer (a .core) (now (a .memory)) (a .kept) (a .word) known, known-memory (a .core) (now (a .memory)) (a .kept) (a .word) known)
+    let known = c .before .enum-told .given .1 in (
+      c .begin-load .ensures ∙ known-answer (a .core) (now (a .memory)) (a .kept) (a .word) known,
+      known-memory (a .core) (now (a .memory)) (a .kept) (a .word)
+          known,
+    )
 
 same-length : tie.Need-same-length
 same-length c = search needs
@@ -91,8 +94,11 @@ same-length c = search needs
 returns-2 : tie.Need-returns-2
 returns-2 c =
     let a = c .before .before .before .before .before .before .before .before .args in
-    let known = c .before .before .before .before .enum-told2 .given .1 in
-    (c .before .before .fill .ensures .0 ∙ known-answer (a .core) (now (a .memory)) (a .kept) (a .word) known, c .before .before .fill .ensures .1 ∙ known-memory (a .core) (now (a .memory)) (a .kept) (a .word) known)
+    let known = c .before .before .before .before .enum-told2 .given .1 in (
+      c .before .before .fill .ensures .0 ∙ known-answer (a .core) (now (a .memory)) (a .kept) (a .word) known,
+      c .before .before .fill .ensures .1
+          ∙ known-memory (a .core) (now (a .memory)) (a .kept) (a .word) known,
+    )
 
 same-length-2 : tie.Need-same-length-2
 same-length-2 c = search needs
@@ -100,38 +106,56 @@ same-length-2 c = search needs
 returns-3 : tie.Need-returns-3
 returns-3 c =
     let a = c .before .before .before .before .before .before .before .before .args in
-    let known = c .before .before .before .before .enum-told3 .given .1 in
-    (c .before .before .boot-table .ensures .0 ∙ known-answer (a .core) (now (a .memory)) (a .kept) (a .word) known, c .before .before .boot-table .ensures .1 ∙ known-memory (a .core) (now (a .memory)) (a .kept) (a .word) known)
+    let known = c .before .before .before .before .enum-told3 .given .1 in (
+      c .before .before .boot-table .ensures .0 ∙ known-answer (a .core) (now (a .memory)) (a .kept) (a .word) known,
+      c .before .before .boot-table .ensures .1
+          ∙ known-memory (a .core) (now (a .memory)) (a .kept) (a .word) known,
+    )
 
 returns-4 : tie.Need-returns-4
 returns-4 c =
     let a = c .before .before .before .before .before .args in
-    let known = c .before .enum-told4 .given .1 in
-    (c .switch .ensures ∙ known-answer (a .core) (now (a .memory)) (a .kept) (a .word) known, known-memory (a .core) (now (a .memory)) (a .kept) (a .word) known)
+    let known = c .before .enum-told4 .given .1 in (
+      c .switch .ensures ∙ known-answer (a .core) (now (a .memory)) (a .kept) (a .word) known,
+      known-memory (a .core) (now (a .memory)) (a .kept) (a .word)
+          known,
+    )
 
 returns-5 : tie.Need-returns-5
 returns-5 c =
     let a = c .before .before .before .before .before .args in
-    let known = c .before .enum-told5 .given .1 in
-    (c .switch2 .ensures ∙ known-answer (a .core) (now (a .memory)) (a .kept) (a .word) known, known-memory (a .core) (now (a .memory)) (a .kept) (a .word) known)
+    let known = c .before .enum-told5 .given .1 in (
+      c .switch2 .ensures ∙ known-answer (a .core) (now (a .memory)) (a .kept) (a .word) known,
+      known-memory (a .core) (now (a .memory)) (a .kept) (a .word)
+          known,
+    )
 
 returns-6 : tie.Need-returns-6
 returns-6 c =
     let a = c .before .before .before .before .before .args in
-    let known = c .before .enum-told6 .given .1 in
-    (c .request .ensures ∙ known-answer (a .core) (now (a .memory)) (a .kept) (a .word) known, known-memory (a .core) (now (a .memory)) (a .kept) (a .word) known)
+    let known = c .before .enum-told6 .given .1 in (
+      c .request .ensures ∙ known-answer (a .core) (now (a .memory)) (a .kept) (a .word) known,
+      known-memory (a .core) (now (a .memory)) (a .kept) (a .word)
+          known,
+    )
 
 returns-7 : tie.Need-returns-7
 returns-7 c =
     let a = c .before .before .before .before .before .args in
-    let known = c .before .enum-told7 .given .1 in
-    (c .switch3 .ensures ∙ known-answer (a .core) (now (a .memory)) (a .kept) (a .word) known, known-memory (a .core) (now (a .memory)) (a .kept) (a .word) known)
+    let known = c .before .enum-told7 .given .1 in (
+      c .switch3 .ensures ∙ known-answer (a .core) (now (a .memory)) (a .kept) (a .word) known,
+      known-memory (a .core) (now (a .memory)) (a .kept) (a .word)
+          known,
+    )
 
 returns-8 : tie.Need-returns-8
 returns-8 c =
     let a = c .before .before .before .before .before .args in
-    let known = c .before .enum-told8 .given .1 in
-    (c .jump-and-close .ensures ∙ known-answer (a .core) (now (a .memory)) (a .kept) (a .word) known, known-memory (a .core) (now (a .memory)) (a .kept) (a .word) known)
+    let known = c .before .enum-told8 .given .1 in (
+      c .jump-and-close .ensures ∙ known-answer (a .core) (now (a .memory)) (a .kept) (a .word) known,
+      known-memory (a .core) (now (a .memory)) (a .kept)
+          (a .word) known,
+    )
 
 returns-9 : tie.Need-returns-9
 returns-9 c =
@@ -142,8 +166,11 @@ returns-9 c =
 returns-10 : tie.Need-returns-10
 returns-10 c =
     let a = c .before .before .before .before .before .args in
-    let known = c .before .enum-told10 .given .1 in
-    (c .refuse .ensures ∙ known-answer (a .core) (now (a .memory)) (a .kept) (a .word) known, known-memory (a .core) (now (a .memory)) (a .kept) (a .word) known)
+    let known = c .before .enum-told10 .given .1 in (
+      c .refuse .ensures ∙ known-answer (a .core) (now (a .memory)) (a .kept) (a .word) known,
+      known-memory (a .core) (now (a .memory)) (a .kept) (a .word)
+          known,
+    )
 
 pub perform-spec : {M : Type 1} → statement M
 perform-spec =

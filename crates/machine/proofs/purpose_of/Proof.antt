@@ -30,18 +30,22 @@ enum-known-phase-3 c = search needs
 returns : tie.Need-returns
 returns c =
     rw (c .before .look-up .ensures) at (c .opcode-purpose .ensures)
-    ∙ sym (ap (λ (p : Phase). purposeOf p (c .before .before .before .before .args .dialect) (c .before .before .before .before .args .word)) (c .before .before .enum-told .given .1))
+    ∙ sym (ap (λ (p : Phase). purposeOf p (c .before .before .before .before .args .dialect) (c .before .before .before .before .args .word))
+    (c .before .before .enum-told .given .1))
 
 returns-2 : tie.Need-returns-2
 returns-2 c =
     rw (c .less-one .ensures)
-    (sym (ap (λ (p : Phase). purposeOf p (c .before .before .before .before .args .dialect) (c .before .before .before .before .args .word)) (c .before .before .phase .given .1)))
+    (sym (ap (λ (p : Phase). purposeOf p (c .before .before .before .before .args .dialect) (c .before .before .before .before .args .word))
+    (c .before .before .phase .given .1)))
 
 returns-3 : tie.Need-returns-3
-returns-3 c = sym (ap (λ (p : Phase). purposeOf p (c .before .before .before .args .dialect) (c .before .before .before .args .word)) (c .before .phase2 .given .1))
+returns-3 c = sym (ap (λ (p : Phase). purposeOf p (c .before .before .before .args .dialect) (c .before .before .before .args .word))
+    (c .before .phase2 .given .1))
 
 returns-4 : tie.Need-returns-4
-returns-4 c = sym (ap (λ (p : Phase). purposeOf p (c .before .before .before .args .dialect) (c .before .before .before .args .word)) (c .before .phase3 .given .1))
+returns-4 c = sym (ap (λ (p : Phase). purposeOf p (c .before .before .before .args .dialect) (c .before .before .before .args .word))
+    (c .before .phase3 .given .1))
 
 pub purpose-of-spec : {M : Type 1} → statement M
 purpose-of-spec =

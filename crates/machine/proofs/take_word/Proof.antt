@@ -48,8 +48,12 @@ same-length c = search needs
 returns-2 : tie.Need-returns-2
 returns-2 c =
     let a = c .before .before .before .before .before .before .before .before .before .before .args in
-    let known = sym (c .before .before .before .before .before .before .before .purpose-of .ensures) ∙ c .before .before .before .before .before .purpose2 .given .1 in
-    (c .before .before .take-command .ensures .0 ∙ served-answer (a .core) (now (a .memory)) (a .word) known, c .before .before .take-command .ensures .1 ∙ served-memory (a .core) (now (a .memory)) (a .word) known)
+    let known = sym (c .before .before .before .before .before .before .before .purpose-of .ensures)
+    ∙ c .before .before .before .before .before .purpose2 .given .1 in (
+      c .before .before .take-command .ensures .0 ∙ served-answer (a .core) (now (a .memory)) (a .word) known,
+      c .before .before .take-command .ensures .1
+          ∙ served-memory (a .core) (now (a .memory)) (a .word) known,
+    )
 
 same-length-2 : tie.Need-same-length-2
 same-length-2 c = search needs
@@ -57,14 +61,21 @@ same-length-2 c = search needs
 returns-3 : tie.Need-returns-3
 returns-3 c =
     let a = c .before .before .before .before .before .before .before .before .before .before .args in
-    let known = sym (c .before .before .before .before .before .before .before .purpose-of .ensures) ∙ c .before .before .before .before .before .purpose3 .given .1 in
-    (c .before .before .take-data .ensures .0 ∙ served-answer (a .core) (now (a .memory)) (a .word) known, c .before .before .take-data .ensures .1 ∙ served-memory (a .core) (now (a .memory)) (a .word) known)
+    let known = sym (c .before .before .before .before .before .before .before .purpose-of .ensures)
+    ∙ c .before .before .before .before .before .purpose3 .given .1 in (
+      c .before .before .take-data .ensures .0 ∙ served-answer (a .core) (now (a .memory)) (a .word) known,
+      c .before .before .take-data .ensures .1
+          ∙ served-memory (a .core) (now (a .memory)) (a .word) known,
+    )
 
 returns-4 : tie.Need-returns-4
 returns-4 c =
     let a = c .before .before .before .before .before .before .before .before .args in
-    let known = sym (c .before .before .before .before .before .purpose-of .ensures) ∙ c .before .before .before .purpose4 .given .1 in
-    (rw (c .before .less-one .ensures) at (c .echo .ensures) ∙ served-answer (a .core) (now (a .memory)) (a .word) known, served-memory (a .core) (now (a .memory)) (a .word) known)
+    let known = sym (c .before .before .before .before .before .purpose-of .ensures) ∙ c .before .before .before .purpose4 .given .1 in (
+      rw (c .before .less-one .ensures) at (c .echo .ensures)
+          ∙ served-answer (a .core) (now (a .memory)) (a .word) known,
+      served-memory (a .core) (now (a .memory)) (a .word) known,
+    )
 
 pub take-word-spec : {M : Type 1} → statement M
 take-word-spec =

@@ -6,7 +6,7 @@ use mathlib.Core.Logic.{_≢_}
 use mathlib.Core.Path.{_≡_}
 use lib.Dec.{eqb}
 use Rattle.words.specs.rules.Choice.{pick}
-use Rattle.opcodes.specs.rules.Opcodes.{lookedUp}
+use Rattle.opcodes.specs.rules.Opcodes.{byWriting, lookedUp}
 use Rattle.opcodes.specs.declared.Command.{Command}
 use Rattle.opcodes.specs.declared.Command.the-variants as command
 use Rattle.opcodes.specs.declared.Dialect.the-variants.{Am17xx, Dm648}
@@ -26,16 +26,7 @@ use Rattle.machine.specs.declared.Phase.the-variants as phase
 
 -- the size that a command counts for: that of a load or a fill
 abbrev pub sizeOf : Command → Kept → ℕ → List ℕ
-sizeOf command.Load kept word = word ∷ []
-sizeOf command.Fill kept word = kept .second ∷ []
-sizeOf command.BootTable kept word = []
-sizeOf command.Enable kept word = []
-sizeOf command.Disable kept word = []
-sizeOf command.Request kept word = []
-sizeOf command.StartOver kept word = []
-sizeOf command.JumpAndClose kept word = []
-sizeOf command.Ping kept word = []
-sizeOf command.SequentialRead kept word = []
+sizeOf command kept word = byWriting command (word ∷ []) (kept .second ∷ []) [] []
 
 -- the words that were kept of a command, and the size that it counts for at its last argument word
 abbrev pub keptBefore : Phase → Kept

@@ -1,5 +1,5 @@
--- What the words of a sent session tell that they wrote (02, request 6): the data of a load the bits of the whole load, by the number that it took at its size word; and any
--- word that writes, the bits of its command by the number that it took.
+-- What the words of a sent session tell that they wrote (02, request 6): the data of a load the bits of the whole load, by the number that it took at its size
+-- word; and any word that writes, the bits of its command by the number that it took.
 use Prim.Native.Nat.{ℕ, _+_, _-_, _*_, _/_, _<_}
 use mathlib.Core.Bool.{Bool, false, _||_}
 use mathlib.Core.List.{List, [], _∷_}

@@ -7,7 +7,7 @@ use lib.ListN.{take}
 use Rattle.words.specs.rules.Bytes.{byte}
 use Rattle.words.specs.rules.Choice.{pick}
 use Rattle.checksum.specs.rules.Checksum.{fed, fedWords}
-use Rattle.opcodes.specs.rules.Answers.{codeOf}
+use Rattle.opcodes.specs.rules.Answers.{accepted}
 use Rattle.opcodes.specs.rules.Opcodes.{lookedUp}
 use Rattle.opcodes.specs.declared.Command.{Command}
 use Rattle.opcodes.specs.declared.Command.the-variants as command
@@ -20,8 +20,11 @@ use Rattle.opcodes.specs.declared.Mode.the-variants.{Sent}
 use Rattle.opcodes.specs.declared.Refusal.{Refusal}
 use Rattle.opcodes.specs.declared.Refusal.the-variants as refusal
 use Rattle.ledger.specs.rules.Totals.{fromOne, standing, wouldPass, differs, counted, isSpent, numbered, turned}
+use Rattle.ledger.specs.declared.Standing.{Standing}
 use Rattle.ledger.specs.declared.Totals.{Totals}
-use Rattle.commands.specs.rules.Commands.{barred, loadJudged, loaded, fillJudged, fillDone, fillMemory, settingJudged, settingDone, settingMemory, entryJudged, closeDone}
+use Rattle.commands.specs.rules.Commands.{barred, loadJudged, fillJudged, fillDone, fillMemory, settingJudged, settingDone, settingMemory, entryJudged}
+use Rattle.commands.specs.rules.Commands.{closeDone}
+use Rattle.stores.specs.rules.Stores.{loaded}
 use Rattle.commands.specs.rules.Wrote.{noneWrote, bytesWrote, settingWrote}
 use Rattle.commands.specs.declared.Done.{Done}
 use Rattle.commands.specs.declared.Judged.{Judged}
@@ -93,14 +96,14 @@ answer leaving memory = record { answer = answer; memory = memory }
 -- a command that was judged and done at its last argument word, with the totals that it leaves
 unfoldable pub after : Core → Totals → Done → Taken
 after k totals done =
-    pick (eqb (codeOf (done .refusal)) 0)
+    pick (accepted (done .refusal))
     (record { refusal = refusal.None; reply = silence; event = done .event; core = await k (tallied (done .checksum) totals) phase.Opcode; wrote = noneWrote })
     (refused k (done .refusal))
 
 -- Jump & Close: entered, the session is ended, and a DM648 says DONE
 unfoldable pub entered : Taken → Taken
 entered t =
-    pick (eqb (codeOf (t .refusal)) 0)
+    pick (accepted (t .refusal))
     (record { refusal = t .refusal; reply = farewell (t .core .dialect); event = t .event; core = stop (t .core); wrote = t .wrote })
     t
 
@@ -116,19 +119,20 @@ keeping kept word = record { first = kept .second; second = kept .third; third =
 unfoldable pub awaited : ℕ → ℕ → Phase
 awaited end left = pick (eqb left 0) phase.Opcode (phase.Data end left)
 
--- 25: a command, as judged before, that finds no number
-abbrev pub numbering : Core → Judged → Judged
-numbering k judged = barred (isSpent (k .tally .totals)) refusal.Number judged
+-- 18: a load or a fill, as judged before, that would take a total past the largest
+abbrev pub overflowing : Core → ℕ → Judged → Judged
+overflowing k size judged = barred (wouldPass (k .dialect) (k .tally .totals) size) refusal.Overflow judged
 
--- 18, before it: a load or a fill, as judged before, that would take a total past the largest
-abbrev pub counting : Core → ℕ → Judged → Judged
-counting k size judged = numbering k (barred (wouldPass (k .dialect) (k .tally .totals) size) refusal.Overflow judged)
+-- 25, after it: a command, as judged before, that finds no number
+abbrev pub outOfNumbers : Core → Judged → Judged
+outOfNumbers k judged = barred (isSpent (k .tally .totals)) refusal.Number judged
 
 -- a load at its size word: 7, 18, 25, else address and size are fed, and it counts
 abbrev pub loadBegun : Core → ℕ → ℕ → Judged → Taken
 loadBegun k address size (Granted place) =
     quiet
-    (await k (tallied (pick (k .on) (fedWords (k .tally .checksum) (address ∷ size ∷ [])) (k .tally .checksum)) (countedOn k size)) (awaited (place + size) size))
+    (await k (tallied (pick (k .on) (fedWords (k .tally .checksum) (address ∷ size ∷ [])) (k .tally .checksum)) (countedOn k size))
+    (awaited (place + size) size))
 loadBegun k address size (Refused q) = refused k q
 
 -- the bytes of a data word that belong to the load
@@ -139,37 +143,63 @@ dataBytes word left = take left (byte word 0 ∷ byte word 1 ∷ byte word 2 ∷
 unfoldable pub echoing : ℕ → Phase
 echoing n = pick (eqb n 0) phase.Opcode (phase.Echo n)
 
--- Jump & Close ends with its address, or in DM648 with the two totals after it
+-- Load, at its size word
+abbrev pub loadTaken : Core → List ℕ → ℕ → ℕ → WordOutcome
+loadTaken k m address size =
+    loadBegun k address size (outOfNumbers k (overflowing k size (loadJudged (k .windows) address size))) leaving m
+
+-- Fill
+abbrev pub fillTaken : Core → List ℕ → ℕ → ℕ → ℕ → ℕ → WordOutcome
+fillTaken k m address size kind pattern =
+    let judged : Judged = outOfNumbers k (overflowing k size (fillJudged (k .windows) address size kind)) in
+    writing (bytesWrote judged size (k .tally .totals .next))
+    (after k (countedOn k size) (fillDone judged (k .on) (k .tally .checksum) address size kind pattern))
+    leaving fillMemory judged m size kind pattern
+
+-- Boot Table: it is numbered, and not counted
+abbrev pub settingTaken : Core → List ℕ → ℕ → ℕ → ℕ → ℕ → WordOutcome
+settingTaken k m word address value delay =
+    let judged : Judged = outOfNumbers k (settingJudged (k .windows) word address value) in
+    writing (settingWrote judged word (k .tally .totals .next))
+    (after k (numbered (k .tally .totals)) (settingDone judged (k .tally .checksum) delay))
+    leaving settingMemory judged m word value
+
+-- Enable, Disable and Start-Over: the checksum switched, or as it was, and a value for it
+abbrev pub switched : Core → List ℕ → Bool → ℕ → WordOutcome
+switched k m on checksum = quiet (changed k (k .ended) on (k .begun) (withChecksum k checksum) phase.Opcode) leaving m
+
+-- Request: the checksum is sent, and becomes 0
+abbrev pub requestTaken : Core → List ℕ → WordOutcome
+requestTaken k m = said (oneWord (k .tally .checksum)) (await k (withChecksum k 0) phase.Opcode) leaving m
+
+-- Jump & Close: 10, then 17 where the totals that it names are not those that stand
+abbrev pub closeJudged : Core → ℕ → Standing → Judged
+closeJudged k address named = barred (differs (k .dialect) (k .tally .totals) named) refusal.Totals (entryJudged (k .windows) address)
+
+abbrev pub closeTaken : Core → List ℕ → ℕ → Standing → WordOutcome
+closeTaken k m address named =
+    entered (after k (k .tally .totals) (closeDone (closeJudged k address named) (k .tally .checksum) address)) leaving m
+
+-- its words end with its address, or in DM648 with the two totals after it
 abbrev pub closeAddress : Dialect → Kept → ℕ → ℕ
 closeAddress Am17xx kept word = word
 closeAddress Dm648 kept word = kept .second
 
--- 10, then 17 where the two words, sections and bytes, differ from the totals
-abbrev pub closeJudged : Core → Kept → ℕ → Judged
-closeJudged k kept word =
-    barred (differs (k .dialect) (k .tally .totals) (standing (kept .third) word)) refusal.Totals
-    (entryJudged (k .windows) (closeAddress (k .dialect) kept word))
+-- Ping: its count is echoed, and then so many words
+abbrev pub pingTaken : Core → List ℕ → ℕ → WordOutcome
+pingTaken k m count = said (oneWord count) (await k (k .tally) (echoing count)) leaving m
 
--- what a command does with its words: those kept, and the last; what the table allows in flash mode only is 6
+-- what a command does with its words in their order, the last three kept and the last; what the table allows in flash mode only is 6
 abbrev pub performed : Command → Core → List ℕ → Kept → ℕ → WordOutcome
-performed command.Load k m kept word =
-    loadBegun k (kept .third) word (counting k word (loadJudged (k .windows) (kept .third) word)) leaving m
-performed command.Fill k m kept word =
-    let judged : Judged = counting k (kept .second) (fillJudged (k .windows) (kept .first) (kept .second) (kept .third)) in
-    writing (bytesWrote judged (kept .second) (k .tally .totals .next))
-    (after k (countedOn k (kept .second)) (fillDone judged (k .on) (k .tally .checksum) (kept .first) (kept .second) (kept .third) word))
-    leaving fillMemory judged m (kept .second) (kept .third) word
-performed command.BootTable k m kept word =
-    let judged : Judged = numbering k (settingJudged (k .windows) (kept .first) (kept .second) (kept .third)) in
-    writing (settingWrote judged (kept .first) (k .tally .totals .next)) (after k (numbered (k .tally .totals)) (settingDone judged (k .tally .checksum) word))
-    leaving settingMemory judged m (kept .first) (kept .third)
-performed command.Enable k m kept word = quiet (changed k (k .ended) true (k .begun) (withChecksum k 0) phase.Opcode) leaving m
-performed command.Disable k m kept word = quiet (changed k (k .ended) false (k .begun) (k .tally) phase.Opcode) leaving m
-performed command.Request k m kept word = said (oneWord (k .tally .checksum)) (await k (withChecksum k 0) phase.Opcode) leaving m
-performed command.StartOver k m kept word = quiet (await k (withChecksum k 0) phase.Opcode) leaving m
-performed command.JumpAndClose k m kept word =
-    entered (after k (k .tally .totals) (closeDone (closeJudged k kept word) (k .tally .checksum) (closeAddress (k .dialect) kept word))) leaving m
-performed command.Ping k m kept word = said (oneWord word) (await k (k .tally) (echoing word)) leaving m
+performed command.Load k m kept size = loadTaken k m (kept .third) size
+performed command.Fill k m kept pattern = fillTaken k m (kept .first) (kept .second) (kept .third) pattern
+performed command.BootTable k m kept delay = settingTaken k m (kept .first) (kept .second) (kept .third) delay
+performed command.Enable k m kept word = switched k m true 0
+performed command.Disable k m kept word = switched k m false (k .tally .checksum)
+performed command.Request k m kept word = requestTaken k m
+performed command.StartOver k m kept word = switched k m (k .on) 0
+performed command.JumpAndClose k m kept word = closeTaken k m (closeAddress (k .dialect) kept word) (standing (kept .third) word)
+performed command.Ping k m kept count = pingTaken k m count
 performed command.SequentialRead k m kept word = refused k refusal.Opcode leaving m
 
 -- a command with so many words to come: with none it is done, else the next is awaited and this one kept
@@ -185,7 +215,7 @@ begun command k = changed k (k .ended) (k .on) true (tallied (k .tally .checksum
 -- and where it is accepted, its acknowledgement comes before all else that is said
 unfoldable pub acknowledging : ℕ → Taken → Taken
 acknowledging opcode t =
-    pick (eqb (codeOf (t .refusal)) 0)
+    pick (accepted (t .refusal))
     (record { refusal = t .refusal; reply = wordThen (acknowledged opcode) (t .reply); event = t .event; core = t .core; wrote = t .wrote })
     t
 

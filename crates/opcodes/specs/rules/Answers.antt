@@ -1,5 +1,7 @@
 -- The numbers of refusals, and the kinds and values of events.
 use Prim.Native.Nat.{ℕ}
+use mathlib.Core.Bool.{Bool}
+use lib.Dec.{eqb}
 use Rattle.opcodes.specs.declared.Refusal.{Refusal}
 use Rattle.opcodes.specs.declared.Refusal.the-variants as refusal
 use Rattle.opcodes.specs.declared.Event.{Event}
@@ -31,6 +33,10 @@ codeOf refusal.Digit = 22
 codeOf refusal.Room = 23
 codeOf refusal.Chosen = 24
 codeOf refusal.Number = 25
+
+-- is nothing refused?
+abbrev pub accepted : Refusal → Bool
+accepted q = eqb (codeOf q) 0
 
 -- an event's kind: 0 nothing, 1 wait, 3 enter an address; 2 was a call, and stays unused
 abbrev pub kindOf : Event → ℕ

@@ -83,3 +83,16 @@ foundIn (row ∷ rest) opcode mode dialect =
 -- what the table says of an opcode in a mode and a dialect
 unfoldable pub lookedUp : ℕ → Mode → Dialect → Found
 lookedUp opcode mode dialect = pick (eqb opcode retired) Retired (foundIn rows opcode mode dialect)
+
+-- a choice by what a command writes: the bytes of a load, of a fill, the bits of a setting, or nothing
+abbrev pub byWriting : {A : Type 0} → Command → A → A → A → A → A
+byWriting Load load fill setting other = load
+byWriting Fill load fill setting other = fill
+byWriting BootTable load fill setting other = setting
+byWriting Enable load fill setting other = other
+byWriting Disable load fill setting other = other
+byWriting Request load fill setting other = other
+byWriting StartOver load fill setting other = other
+byWriting JumpAndClose load fill setting other = other
+byWriting Ping load fill setting other = other
+byWriting SequentialRead load fill setting other = other

@@ -17,8 +17,10 @@ use prog.Wp.{Heap, Calls, Loops, WpFn, Tables}
 use ghost.Atoms.{Atoms, sem}
 use contract.Monad.{Fun, fact}
 use contract.Running.{givenOf, tables, tablesOf}
-use types.Kit.{Given, ‵, raw, some, later, _⊛_, ⋆, _$_, _∵_, !, qed, by, move, keep, drop, use1, use2, split, join, pick, rewrite, fsplit, fsplit3, fjoin, fjoin3, feqL, feqI, suffices, frame, await, done}
-use types.Run.{look, look-raw, init, store-raw, forget, stop, hop, fld, from, load, addr, of-opd, and-then, no-more, assigns, land, returns, enter, alloc1, alloc0, params1, pass1, pass0, free1, free0}
+use types.Kit.{Given, ‵, raw, some, later, _⊛_, ⋆, _$_, _∵_, !, qed, by, move, keep, drop, use1, use2, split, join, pick, rewrite, fsplit, fsplit3, fjoin}
+use types.Kit.{fjoin3, feqL, feqI, suffices, frame, await, done}
+use types.Run.{look, look-raw, init, store-raw, forget, stop, hop, fld, from, load, addr, of-opd, and-then, no-more, assigns, land, returns, enter, alloc1}
+use types.Run.{alloc0, params1, pass1, pass0, free1, free0}
 use types.Part.{agg, whole, sub, look-in}
 use types.SemTy.{Body}
 use sound.WpLaws.{FmC, fmOf, WpFn-mono}
@@ -113,7 +115,8 @@ abbrev Advance : {M : Type 1} (𝓤 : URA M) (H : Heap 𝓤) (A : Atoms 𝓤) (a
 Advance 𝓤 H A at-mem run = tripleOf 𝓤 H A advance.signature (advance.spec 𝓤 H A at-mem run)
 
 -- h, ys and n are the session, the memory and the byte passed; κ₁, q₁, b₁, o₁ and γ₁ are of the session's borrow, κ₂, q₂, b₂, o₂ and γ₂ of the memory's
-module _ {M : Type 1} (𝓤 : URA M) (H : Heap 𝓤) (A : Atoms 𝓤) (W : Given 𝓤 H A) (at-mem : Memory → SProp 𝓤) (run : Routine → Fun 𝓤) (κ₁ κ₂ : Lft) (q₁ q₂ : Share) (b₁ o₁ : ℕ) (γ₁ : GName) (h : Session) (b₂ o₂ : ℕ) (γ₂ : GName) (ys : List ℕ) (n : ℕ) (fits : n < 2 ^ 8) where
+module _ {M : Type 1} (𝓤 : URA M) (H : Heap 𝓤) (A : Atoms 𝓤) (W : Given 𝓤 H A) (at-mem : Memory → SProp 𝓤) (run : Routine → Fun 𝓤) (κ₁ κ₂ : Lft)
+    (q₁ q₂ : Share) (b₁ o₁ : ℕ) (γ₁ : GName) (h : Session) (b₂ o₂ : ℕ) (γ₂ : GName) (ys : List ℕ) (n : ℕ) (fits : n < 2 ^ 8) where
   -- what both contracts say of a last session, an answer and a last memory
   abbrev Claim : Session → Told → List ℕ → Type 0
   Claim = isGiven (unitStep Bytes h ys n)
@@ -141,64 +144,105 @@ module _ {M : Type 1} (𝓤 : URA M) (H : Heap 𝓤) (A : Atoms 𝓤) (W : Given
   abbrev to-advance : Advance 𝓤 H A at-mem run .Ghost
   to-advance = (((κ₂, tt), (q₂, tt), tt, (h, (x, (n, tt))), (mach h ∷ [], (slice ∷ [], (vint w8 n ∷ [], tt)))), tt)
 
-  goes-advance : Is session-type.the-row h (mach h ∷ []) → ent 𝓤 (sep 𝓤 (sep 𝓤 (A .lft κ₂ q₂) (sem 𝓤 H A ftrue)) (sem 𝓤 H A (owns (MutSlice (named 1) κ₂ u8 ∷ u8 ∷ []) (x, (n, tt)) (slice ∷ [], (vint w8 n ∷ [], tt))))) (Advance 𝓤 H A at-mem run .pre to-advance)
+  goes-advance : Is session-type.the-row h (mach h ∷ [])
+      → ent 𝓤 (sep 𝓤 (sep 𝓤 (A .lft κ₂ q₂) (sem 𝓤 H A ftrue))
+      (sem 𝓤 H A (owns (MutSlice (named 1) κ₂ u8 ∷ u8 ∷ []) (x, (n, tt)) (slice ∷ [], (vint w8 n ∷ [], tt))))) (Advance 𝓤 H A at-mem run .pre to-advance)
   goes-advance g =
       qed W ((‵ (flft κ₂ q₂) ⊛ ‵ ftrue) ∷ ‵ (owns (MutSlice (named 1) κ₂ u8 ∷ u8 ∷ []) (x, (n, tt)) (slice ∷ [], (vint w8 n ∷ [], tt))) ∷ []) ∵
-      owned ! session-type.the-row (Is session-type.the-row) (LL.makes session-type.the-type session-laws.the-plain 𝓤 H A) h _ g $ move ! (0 ∷ 2 ∷ []) $ fjoin ! $ move ! (1 ∷ 0 ∷ []) $ join ! $ frame ! $ done !
+      owned ! session-type.the-row (Is session-type.the-row) (LL.makes session-type.the-type session-laws.the-plain 𝓤 H A) h _ g $ move ! (0 ∷ 2 ∷ []) $ fjoin
+      ! $ move ! (1 ∷ 0 ∷ []) $ join ! $ frame ! $ done !
 
   exits : (s : Session) (t : Told) (zs : List ℕ) → Claim s t zs → length zs ≡ length ys → Is told-type.the-row t (said t ∷ [])
-      → ent 𝓤 (⋆ 𝓤 H A (‵ (fobs γ₁ (session-type.the-row .coded .code s)) ∷ ‵ (fbor κ₁ (Body (mem session-type.the-row) b₁ o₁ γ₁)) ∷ ‵ (flft κ₁ q₁) ∷ (‵ (flft κ₂ q₂) ⊛ ‵ ftrue) ∷ ‵ (finally u8 γ₂ zs) ∷ [])) (Post (said t))
+      → ent 𝓤 (⋆ 𝓤 H A (‵ (fobs γ₁ (session-type.the-row .coded .code s)) ∷ ‵ (fbor κ₁ (Body (mem session-type.the-row) b₁ o₁ γ₁)) ∷ ‵ (flft κ₁ q₁)
+      ∷ (‵ (flft κ₂ q₂) ⊛ ‵ ftrue) ∷ ‵ (finally u8 γ₂ zs) ∷ [])) (Post (said t))
   unfolding Post
   exits s t zs e l is =
-      qed W (‵ (fobs γ₁ (session-type.the-row .coded .code s)) ∷ ‵ (fbor κ₁ (Body (mem session-type.the-row) b₁ o₁ γ₁)) ∷ ‵ (flft κ₁ q₁) ∷ (‵ (flft κ₂ q₂) ⊛ ‵ ftrue) ∷ ‵ (finally u8 γ₂ zs) ∷ []) ∵
-      suffices ! _ (ends-at 𝓤 H A feed.ended stayed (feed.clauses 𝓤 H A at-mem run) W (((κ₁, (κ₂, tt)), (q₁, (q₂, tt)), tt, a, vals), tt) (said t) t (s, (zs, (tt, tt))) (tt, (l, (tt, tt)))) $ says ! e $
+      qed W (‵ (fobs γ₁ (session-type.the-row .coded .code s)) ∷ ‵ (fbor κ₁ (Body (mem session-type.the-row) b₁ o₁ γ₁)) ∷ ‵ (flft κ₁ q₁)
+      ∷ (‵ (flft κ₂ q₂) ⊛ ‵ ftrue) ∷ ‵ (finally u8 γ₂ zs) ∷ []) ∵
+      suffices ! _ (ends-at 𝓤 H A feed.ended stayed (feed.clauses 𝓤 H A at-mem run) W (((κ₁, (κ₂, tt)), (q₁, (q₂, tt)), tt, a, vals), tt) (said t) t
+      (s, (zs, (tt, tt))) (tt, (l, (tt, tt)))) $ says ! e $
       move ! (2 ∷ 3 ∷ []) $ join ! $ frame ! $ feqI ! (List Val) (vptr b₁ o₁ ∷ []) (vptr b₁ o₁ ∷ []) refl $ fjoin3 ! $
       nothing ! $ owned ! u8 (Is u8) (uint-makes 𝓤 H A W w8) n _ (refl, fits) $ fjoin ! $ move ! (2 ∷ 0 ∷ []) $ fjoin ! $ move ! (1 ∷ 0 ∷ []) $ fjoin ! $
       owned ! told-type.the-row (Is told-type.the-row) (LL.makes told-type.the-type told-laws.the-plain 𝓤 H A) t _ is $ move ! (1 ∷ 0 ∷ []) $ done !
 
   module _ (C : Calls 𝓤 H) (Λ : Loops 𝓤 H) (fm : FmC 𝓤 H (W .laws) C) (known : Triple 𝓤 (C #port·advance) (Advance 𝓤 H A at-mem run)) where
-    walk : Room u8 (length ys) → ent 𝓤 (onEntry 𝓤 H A feed.signature (κ₁, (κ₂, tt)) (q₁, (q₂, tt)) a vals) (WpFn 𝓤 H C Λ code.function (vptr b₁ o₁ ∷ slice ∷ vint w8 n ∷ []) Post)
+    walk : Room u8 (length ys) → ent 𝓤 (onEntry 𝓤 H A feed.signature (κ₁, (κ₂, tt)) (q₁, (q₂, tt)) a vals)
+        (WpFn 𝓤 H C Λ code.function (vptr b₁ o₁ ∷ slice ∷ vint w8 n ∷ []) Post)
     walk room =
-        qed W ((‵ (flft κ₁ q₁) ⊛ ‵ (flft κ₂ q₂) ⊛ ‵ ftrue) ∷ ‵ (owns (MutRef (named 0) κ₁ session-type.the-row ∷ MutSlice (named 1) κ₂ u8 ∷ u8 ∷ []) a vals) ∷ []) ∵ enter ! C Λ code.function (vptr b₁ o₁ ∷ slice ∷ vint w8 n ∷ []) _ $
+        qed W ((‵ (flft κ₁ q₁) ⊛ ‵ (flft κ₂ q₂) ⊛ ‵ ftrue) ∷ ‵ (owns (MutRef (named 0) κ₁ session-type.the-row ∷ MutSlice (named 1) κ₂ u8 ∷ u8 ∷ []) a vals)
+        ∷ []) ∵ enter ! C Λ code.function (vptr b₁ o₁ ∷ slice ∷ vint w8 n ∷ []) _ $
         alloc1 ! (λ l₀. alloc1 ! (λ l₁. alloc1 ! (λ l₂. alloc1 ! (λ l₃. alloc1 ! (λ l₄. alloc1 ! (λ l₅. alloc1 ! (λ l₆. alloc1 ! (λ l₇. alloc0 ! $ params1 ! $
-        pass1 ! (init ! 12 refl (tt, tt)) $ pass1 ! (init ! 10 refl (tt, (tt, (record { fits = room .0 }, tt)))) $ pass1 ! (init ! 8 refl (tt, record { fits = fits })) $ pass0 ! $
+        pass1 ! (init ! 12 refl (tt, tt)) $ pass1 ! (init ! 10 refl (tt, (tt, (record { fits = room .0 }, tt)))) $ pass1 !
+        (init ! 8 refl (tt, record { fits = fits })) $ pass0 ! $
         -- the session's borrow is opened
         move ! (17 ∷ []) $ fsplit ! $ fsplit3 ! $ drop ! $ move ! (19 ∷ []) $ split ! $ move ! (2 ∷ 3 ∷ 0 ∷ []) $
-        opens ! tt session-type.the-row {h = h} b₁ o₁ (λ vs. spelt ! session-type.the-row (Is session-type.the-row) (shows 𝓤 H A session-type.the-row) (λ (s : Session). mach s ∷ []) mach-tells fullShare h vs b₁ o₁ $
+        opens ! tt session-type.the-row {h = h} b₁ o₁ (λ vs. spelt ! session-type.the-row (Is session-type.the-row) (shows 𝓤 H A session-type.the-row)
+        (λ (s : Session). mach s ∷ []) mach-tells fullShare h vs b₁ o₁ $
         move ! (1 ∷ []) $ facts ! session-type.the-row (Is session-type.the-row) (shows 𝓤 H A session-type.the-row) h (mach h ∷ []) (λ g.
-        -- [the session's cell; the open borrow; obs; auth; the memory's token; what memory and byte own; _7; …; _6; …; _5; …; _4; …; _3; …; _2; …; _1; …; room for _0; …]
-        assigns ! (of-opd ! (load ! (from ! (hop ! (look ! 18 refl) (stop !))) (look-raw ! 0 {τ = session-laws.mir} {v = mach h} refl))) (from ! (stop !)) (init ! 10 {τ = session-laws.mir} {v = mach h} refl (session-typed 𝓤 H A W h (mach h) g)) $
+        -- [the session's cell; the open borrow; obs; auth; the memory's token; what memory and byte own; _7; …; _6; …; _5; …; _4; …; _3; …; _2; …; _1; …; room
+        -- for _0; …]
+        assigns ! (of-opd ! (load ! (from ! (hop ! (look ! 18 refl) (stop !))) (look-raw ! 0 {τ = session-laws.mir} {v = mach h} refl))) (from ! (stop !))
+        (init ! 10 {τ = session-laws.mir} {v = mach h} refl (session-typed 𝓤 H A W h (mach h) g)) $
         assigns ! (addr ! (from ! (fld ! refl (hop ! (look-in ! 16 (sub ! 0 refl (whole !))) (stop !))))) (from ! (stop !)) (init ! 8 refl (tt, tt)) $
-        assigns ! (agg ! (and-then ! (load ! (from ! (stop !)) (look ! 8 refl)) (and-then ! (load ! (from ! (fld ! refl (stop !))) (look-in ! 16 (sub ! 1 refl (whole !)))) (no-more !)))) (from ! (stop !)) (init ! 6 refl (tt, (tt, (record { fits = room .0 }, tt)))) $
+        assigns ! (agg ! (and-then ! (load ! (from ! (stop !)) (look ! 8 refl))
+        (and-then ! (load ! (from ! (fld ! refl (stop !))) (look-in ! 16 (sub ! 1 refl (whole !)))) (no-more !)))) (from ! (stop !))
+        (init ! 6 refl (tt, (tt, (record { fits = room .0 }, tt)))) $
         -- `advance`
         move ! (4 ∷ 5 ∷ []) $ use2 W (raw (Advance 𝓤 H A at-mem run .pre to-advance)) (goes-advance g) $
-        calls-at ! fm (Advance 𝓤 H A at-mem run) known to-advance (and-then ! (load ! (from ! (stop !)) (look ! 9 {τ = session-laws.mir} {v = mach h} refl)) (and-then ! (load ! (from ! (stop !)) (look ! 5 refl)) (and-then ! (load ! (from ! (stop !)) (look ! 13 refl)) (no-more !)))) (λ w.
-        use1 W (later (some (λ (r : Fed). ((‵ (flft κ₂ q₂) ⊛ ‵ ftrue) ⊛ ‵ (fed-type.the-row .own r (w ∷ []))) ⊛ raw (ensured 𝓤 H A advance.ended (advance.clauses 𝓤 H A at-mem run) (κ₂, tt) (h, (x, (n, tt))) tt r)))) (id⊢ 𝓤 _) $ await ! tt $ pick ! (λ r.
-        split ! $ move ! (1 ∷ []) $ use1 W (some (λ (zs : Unit {0} × (List ℕ × (Unit {0} × Unit {0}))). ‵ (lasts advance.ended (κ₂, tt) (h, (x, (n, tt))) zs) ⊛ raw (fact 𝓤 (Claim (r .session) (r .told) (zs .1 .0))))) (id⊢ 𝓤 _) $ pick ! (λ zs.
-        split ! $ move ! (1 ∷ []) $ heard ! (Claim (r .session) (r .told) (zs .1 .0)) (λ e. fsplit ! $ move ! (1 ∷ []) $ fsplit ! $ fsplit ! $ move ! (1 ∷ []) $ feqL ! (λ l.
+        calls-at ! fm (Advance 𝓤 H A at-mem run) known to-advance
+        (and-then ! (load ! (from ! (stop !)) (look ! 9 {τ = session-laws.mir} {v = mach h} refl))
+        (and-then ! (load ! (from ! (stop !)) (look ! 5 refl)) (and-then ! (load ! (from ! (stop !)) (look ! 13 refl)) (no-more !)))) (λ w.
+        use1 W (later (some (λ (r : Fed). ((‵ (flft κ₂ q₂) ⊛ ‵ ftrue) ⊛ ‵ (fed-type.the-row .own r (w ∷ []))) ⊛ raw
+        (ensured 𝓤 H A advance.ended (advance.clauses 𝓤 H A at-mem run) (κ₂, tt) (h, (x, (n, tt))) tt r)))) (id⊢ 𝓤 _) $ await ! tt $ pick ! (λ r.
+        split ! $ move ! (1 ∷ []) $ use1 W (some (λ (zs : Unit {0} × (List ℕ × (Unit {0} × Unit {0}))). ‵ (lasts advance.ended (κ₂, tt) (h, (x, (n, tt))) zs)
+        ⊛ raw (fact 𝓤 (Claim (r .session) (r .told) (zs .1 .0))))) (id⊢ 𝓤 _) $ pick ! (λ zs.
+        split ! $ move ! (1 ∷ []) $ heard ! (Claim (r .session) (r .told) (zs .1 .0))
+        (λ e. fsplit ! $ move ! (1 ∷ []) $ fsplit ! $ fsplit ! $ move ! (1 ∷ []) $ feqL ! (λ l.
         move ! (3 ∷ []) $ split ! $ move ! (1 ∷ []) $ facts ! fed-type.the-row (Is fed-type.the-row) (shows 𝓤 H A fed-type.the-row) r (w ∷ []) (λ is.
-        -- [the memory's token; the last memory; …; …; the session's cell; the open borrow; obs; auth; _7; …; _6; …; _5; …; _4; …; _3; …; _2; …; _1; …; room for _0; …]
-        land ! (from ! (stop !)) (init ! 14 {τ = fed-laws.mir} {v = w} refl (fed-typed 𝓤 H A W r w is)) $ rewrite ! 14 (λ (u : Val). ‵ (fat fullShare fed-laws.mir l₄ 0 u)) (fed-tells r w is) refl $
-        assigns ! (of-opd ! (load ! (from ! (fld ! {τ = session-laws.mir} {d = 0} refl (stop !))) (look-in ! 14 {τ = session-laws.mir} {v = mach (r .session)} (sub ! {q = fullShare} {τs = fed-parts} {vs = vcons (mach (r .session)) (vcons (said (r .told)) vnil)} 0 {τ = session-laws.mir} {d = 0} refl (whole !))))) (from ! (hop ! (look ! 20 refl) (stop !))) (store-raw ! 4 {τ = session-laws.mir} {v₀ = mach h} {v = mach (r .session)} refl (session-typed 𝓤 H A W (r .session) (mach (r .session)) (session-is r w is))) $
-        assigns ! (of-opd ! (load ! (from ! (fld ! {τ = told-laws.mir} {d = told-at} refl (stop !))) (look-in ! 14 {τ = told-laws.mir} {v = said (r .told)} (sub ! {q = fullShare} {τs = fed-parts} {vs = vcons (mach (r .session)) (vcons (said (r .told)) vnil)} 1 {τ = told-laws.mir} {d = told-at} refl (whole !))))) (from ! (stop !)) (init ! 22 {τ = told-laws.mir} {v = said (r .told)} refl (told-typed 𝓤 H A W (r .told) (said (r .told)) (told-is r w is))) $
+        -- [the memory's token; the last memory; …; …; the session's cell; the open borrow; obs; auth; _7; …; _6; …; _5; …; _4; …; _3; …; _2; …; _1; …; room for
+        -- _0; …]
+        land ! (from ! (stop !)) (init ! 14 {τ = fed-laws.mir} {v = w} refl (fed-typed 𝓤 H A W r w is)) $ rewrite ! 14
+        (λ (u : Val). ‵ (fat fullShare fed-laws.mir l₄ 0 u)) (fed-tells r w is) refl $
+        assigns ! (of-opd ! (load ! (from ! (fld ! {τ = session-laws.mir} {d = 0} refl (stop !)))
+        (look-in ! 14 {τ = session-laws.mir} {v = mach (r .session)}
+        (sub ! {q = fullShare} {τs = fed-parts} {vs = vcons (mach (r .session)) (vcons (said (r .told)) vnil)} 0 {τ = session-laws.mir} {d = 0} refl
+        (whole !))))) (from ! (hop ! (look ! 20 refl) (stop !)))
+        (store-raw ! 4 {τ = session-laws.mir} {v₀ = mach h} {v = mach (r .session)} refl
+        (session-typed 𝓤 H A W (r .session) (mach (r .session)) (session-is r w is))) $
+        assigns ! (of-opd ! (load ! (from ! (fld ! {τ = told-laws.mir} {d = told-at} refl (stop !)))
+        (look-in ! 14 {τ = told-laws.mir} {v = said (r .told)}
+        (sub ! {q = fullShare} {τs = fed-parts} {vs = vcons (mach (r .session)) (vcons (said (r .told)) vnil)} 1 {τ = told-laws.mir} {d = told-at} refl
+        (whole !))))) (from ! (stop !)) (init ! 22 {τ = told-laws.mir} {v = said (r .told)} refl
+        (told-typed 𝓤 H A W (r .told) (said (r .told)) (told-is r w is))) $
         -- the session's borrow is closed at the session that came back
-        owned ! session-type.the-row (Is session-type.the-row) (LL.makes session-type.the-type session-laws.the-plain 𝓤 H A) (r .session) _ (session-is r w is) $ move ! (5 ∷ 0 ∷ 6 ∷ 7 ∷ 8 ∷ []) $ closes ! tt session-type.the-row (r .session) (mach (r .session) ∷ []) b₁ o₁ $
-        returns ! (look ! 21 {τ = told-laws.mir} {v = said (r .told)} refl) $ forget ! 7 refl $ forget ! 9 refl $ forget ! 11 {τ = session-laws.mir} {v = mach h} refl $ forget ! 13 {τ = fed-laws.mir} {v = vstruct (vcons (mach (r .session)) (vcons (said (r .told)) vnil))} refl $ forget ! 15 refl $ forget ! 17 refl $ forget ! 19 refl $ forget ! 21 {τ = told-laws.mir} {v = said (r .told)} refl $
-        move ! (21 ∷ 22 ∷ []) $ free1 ! $ move ! (19 ∷ 20 ∷ []) $ free1 ! $ move ! (17 ∷ 18 ∷ []) $ free1 ! $ move ! (15 ∷ 16 ∷ []) $ free1 ! $ move ! (13 ∷ 14 ∷ []) $ free1 ! $ move ! (11 ∷ 12 ∷ []) $ free1 ! $ move ! (9 ∷ 10 ∷ []) $ free1 ! $ move ! (7 ∷ 8 ∷ []) $ free1 ! $ free0 ! $
+        owned ! session-type.the-row (Is session-type.the-row) (LL.makes session-type.the-type session-laws.the-plain 𝓤 H A) (r .session) _
+        (session-is r w is) $ move ! (5 ∷ 0 ∷ 6 ∷ 7 ∷ 8 ∷ []) $ closes ! tt session-type.the-row (r .session) (mach (r .session) ∷ []) b₁ o₁ $
+        returns ! (look ! 21 {τ = told-laws.mir} {v = said (r .told)} refl) $ forget ! 7 refl $ forget ! 9 refl $ forget ! 11 {τ = session-laws.mir}
+        {v = mach h} refl $ forget ! 13 {τ = fed-laws.mir} {v = vstruct (vcons (mach (r .session)) (vcons (said (r .told)) vnil))} refl $ forget ! 15 refl $
+        forget ! 17 refl $ forget ! 19 refl $ forget ! 21 {τ = told-laws.mir} {v = said (r .told)} refl $
+        move ! (21 ∷ 22 ∷ []) $ free1 ! $ move ! (19 ∷ 20 ∷ []) $ free1 ! $ move ! (17 ∷ 18 ∷ []) $ free1 ! $ move ! (15 ∷ 16 ∷ []) $ free1 ! $ move !
+        (13 ∷ 14 ∷ []) $ free1 ! $ move ! (11 ∷ 12 ∷ []) $ free1 ! $ move ! (9 ∷ 10 ∷ []) $ free1 ! $ move ! (7 ∷ 8 ∷ []) $ free1 ! $ free0 ! $
         keep ! (0 ∷ 1 ∷ 2 ∷ 3 ∷ 4 ∷ []) $ by ! (exits (r .session) (r .told) (zs .1 .0) e l (told-is r w is))))))))))))))))))
 
 module _ {M : Type 1} (𝓤 : URA M) (H : Heap 𝓤) (A : Atoms 𝓤) (W : Given 𝓤 H A) (at-mem : Memory → SProp 𝓤) (run : Routine → Fun 𝓤) where
-  feed-walks : (C : Calls 𝓤 H) (Λ : Loops 𝓤 H) → FmC 𝓤 H (W .laws) C → Triple 𝓤 (C #port·advance) (Advance 𝓤 H A at-mem run) → Walks 𝓤 H A feed.ended stayed (WpFn 𝓤 H C Λ code.function) (feed.clauses 𝓤 H A at-mem run)
+  feed-walks : (C : Calls 𝓤 H) (Λ : Loops 𝓤 H) → FmC 𝓤 H (W .laws) C → Triple 𝓤 (C #port·advance) (Advance 𝓤 H A at-mem run)
+      → Walks 𝓤 H A feed.ended stayed (WpFn 𝓤 H C Λ code.function) (feed.clauses 𝓤 H A at-mem run)
   unfolding Post
   feed-walks C Λ fm known = walked 𝓤 H A feed.ended stayed (feed.clauses 𝓤 H A at-mem run) (WpFn 𝓤 H C Λ code.function)
-      (λ κs. (ptr-vals, (slice-vals, (uint-vals w8, tt)))) (λ κs. (mut-tells (named 0) (κs .0) session-type.the-row, (mut-slice-tells (named 1) (κs .1 .0) u8, (uint-tells w8, tt))))
+      (λ κs. (ptr-vals, (slice-vals, (uint-vals w8, tt))))
+      (λ κs. (mut-tells (named 0) (κs .0) session-type.the-row, (mut-slice-tells (named 1) (κs .1 .0) u8, (uint-tells w8, tt))))
       (λ κs qs bounds a _ are. via 𝓤 _ (fst∗ 𝓤 _ (emp 𝓤))
-      (walk 𝓤 H A W at-mem run (κs .0) (κs .1 .0) (qs .0) (qs .1 .0) (a .0 .ptr .0) (a .0 .ptr .1) (a .0 .name) (a .0 .now) (a .1 .0 .ptr .0) (a .1 .0 .ptr .1) (a .1 .0 .name) (a .1 .0 .now) (a .1 .1 .0) (are .1 .1 .0 .1) C Λ fm known (are .1 .0 .0 .1)))
+      (walk 𝓤 H A W at-mem run (κs .0) (κs .1 .0) (qs .0) (qs .1 .0) (a .0 .ptr .0) (a .0 .ptr .1) (a .0 .name) (a .0 .now) (a .1 .0 .ptr .0)
+      (a .1 .0 .ptr .1) (a .1 .0 .name) (a .1 .0 .now) (a .1 .1 .0) (are .1 .1 .0 .1) C Λ fm known (are .1 .0 .0 .1)))
 
   goes : AllGo 𝓤 H A W 2 (feed.signature .params) (feed.ended .kept) stayed
-  goes = (goes-ref 𝓤 H A W 2 0 tt (plain (λ _. session-type.the-row)), (goes-gave-slice 𝓤 H A W 2 1 tt (plain (λ _. u8)), (goes-none 𝓤 H A W 2 (λ _. u8) yes (λ κs x f. refl), tt)))
+  goes = (
+    goes-ref 𝓤 H A W 2 0 tt (plain (λ _. session-type.the-row)),
+    (goes-gave-slice 𝓤 H A W 2 1 tt (plain (λ _. u8)), (goes-none 𝓤 H A W 2 (λ _. u8) yes (λ κs x f. refl), tt)),
+  )
 
-feed-meets : {M : Type 1} (𝓤 : URA M) (H : Heap 𝓤) (A : Atoms 𝓤) → Given 𝓤 H A → (at-mem : Memory → SProp 𝓤) (run : Routine → Fun 𝓤) (𝓣 : Tables 𝓤 H) → Triple 𝓤 (𝓣 .C #port·advance) (Advance 𝓤 H A at-mem run)
+feed-meets : {M : Type 1} (𝓤 : URA M) (H : Heap 𝓤) (A : Atoms 𝓤) → Given 𝓤 H A → (at-mem : Memory → SProp 𝓤) (run : Routine → Fun 𝓤) (𝓣 : Tables 𝓤 H)
+    → Triple 𝓤 (𝓣 .C #port·advance) (Advance 𝓤 H A at-mem run)
     → Meets 𝓤 H A feed.signature (WpFn 𝓤 H (𝓣 .C) (𝓣 .Λ) code.function) (feed.spec 𝓤 H A at-mem run)
 feed-meets 𝓤 H A W at-mem run 𝓣 known =
     walk-meets 𝓤 H A feed.ended stayed W (goes 𝓤 H A W at-mem run) (feed.clauses 𝓤 H A at-mem run)

@@ -43,7 +43,8 @@ tell-requires-2 c κs = search needs
 returns-2 : tie.Need-returns-2
 returns-2 c =
     let a = c .before .before .before .before .before .before .before .before .args in
-    let case = unit-memory (a .bus) (a .session) (now (a .memory)) (a .unit) (c .before .before .before .before .before .if1 .left) (rw (c .before .before .before .sum .ensures) at (c .before .before .if2 .taken)) in
+    let case = unit-memory (a .bus) (a .session) (now (a .memory)) (a .unit) (c .before .before .before .before .before .if1 .left)
+    (rw (c .before .before .before .sum .ensures) at (c .before .before .if2 .taken)) in
     (told case (rw (c .before .silent2 .ensures) at (c .tell2 .ensures)), left-in case refl)
 
 is-start-requires : tie.Need-is-start-requires
@@ -63,7 +64,8 @@ returns-3 c =
     let a = c .before .before .before .before .before .before .before .before .before .before .before .before .args in
     let lent = c .before .before .before .before .before .before .if2 .left ∙ c .before .before .before .before .before .before .before .sum .ensures in
     let start = sym (c .before .before .before .before .is-start .ensures) ∙ c .before .before .before .if3 .taken in
-    let case = unit-start (a .bus) (a .session) (now (a .memory)) (a .unit) (c .before .before .before .before .before .before .before .before .before .if1 .left) lent start in
+    let case = unit-start (a .bus) (a .session) (now (a .memory)) (a .unit)
+    (c .before .before .before .before .before .before .before .before .before .if1 .left) lent start in
     (told case (rw (c .before .start-reply .ensures, c .before .before .gather .ensures) at (c .tell3 .ensures)), left-in case refl)
 
 silent-requires-3 : tie.Need-silent-requires-3
@@ -75,9 +77,11 @@ tell-requires-4 c κs = search needs
 returns-4 : tie.Need-returns-4
 returns-4 c =
     let a = c .before .before .before .before .before .before .before .before .before .before .before .before .before .args in
-    let lent = c .before .before .before .before .before .before .before .if2 .left ∙ c .before .before .before .before .before .before .before .before .sum .ensures in
+    let lent = c .before .before .before .before .before .before .before .if2 .left
+    ∙ c .before .before .before .before .before .before .before .before .sum .ensures in
     let other = sym (c .before .before .before .before .before .is-start .ensures) ∙ c .before .before .before .before .if3 .left in
-    let case = unit-dropped (a .bus) (a .session) (now (a .memory)) (a .unit) (c .before .before .before .before .before .before .before .before .before .before .if1 .left) lent other (not-true _ (c .before .before .if4 .taken)) in
+    let case = unit-dropped (a .bus) (a .session) (now (a .memory)) (a .unit)
+    (c .before .before .before .before .before .before .before .before .before .before .if1 .left) lent other (not-true _ (c .before .before .if4 .taken)) in
     (told case (rw (c .before .silent3 .ensures) at (c .tell4 .ensures)), left-in case refl)
 
 push-requires : tie.Need-push-requires

@@ -14,7 +14,7 @@ use Rattle.opcodes.specs.declared.Event.the-variants.{Nothing}
 use Rattle.opcodes.specs.declared.Refusal.{Refusal}
 use Rattle.opcodes.specs.declared.Refusal.the-variants.{None, Ended}
 use Rattle.sent.specs.rules.Bus.{unitBits, unitsInWord, startUnit, unitsOf, allUnits, firstUnit}
-use Rattle.sent.specs.rules.Feeding.{State, Heard, heard, fed, answers}
+use Rattle.sent.specs.rules.Feeding.{State, Heard, heard, fed, answers, replied}
 use Rattle.machine.specs.rules.Machine.{wordStep}
 use Rattle.sent.specs.rules.Opening.{openedBy}
 use Rattle.machine.specs.rules.Replies.{silence, sentBytes}
@@ -66,11 +66,6 @@ pub record UnitsAreTheWord (bus : Bus) (k : Core) (m : List ℕ) (word : ℕ) : 
 pub record Absorbed (bus : Bus) (x : State) (units : List ℕ) : Type 0 where
   pub stays : fed bus x units ≡ x
   pub hears : answers bus x units ≡ replicate (length units) (refusedBy Ended)
-
--- the bytes of replies, one after the other
-unfoldable pub replied : List Heard → List ℕ
-replied [] = []
-replied (h ∷ hs) = sentBytes (h .reply) ++ replied hs
 
 -- words that either line takes as words
 unfoldable pub Words : Core → List ℕ → Type 0

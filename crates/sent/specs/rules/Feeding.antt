@@ -1,13 +1,17 @@
--- Units fed to a sent session one after the other, on either line: where they lead, and the answers on the way.
+-- Units fed to a sent session one after the other, on either line: where they lead, the answers on the way, and what a host makes of these.
 use Prim.Native.Nat.{ℕ}
-use mathlib.Core.List.{List, [], _∷_}
+use mathlib.Core.List.{List, [], _∷_, _++_}
 use mathlib.Core.Path.{_≡_}
+use lib.Dec.{eqb}
+use Rattle.words.specs.rules.Choice.{pick}
+use Rattle.opcodes.specs.rules.Answers.{codeOf}
 use Rattle.opcodes.specs.declared.Event.{Event}
 use Rattle.opcodes.specs.declared.Refusal.{Refusal}
 use Rattle.opcodes.specs.declared.Refusal.the-variants.{None}
 use Rattle.ledger.specs.declared.Totals.{Totals}
 use Rattle.sent.specs.rules.Line.{unitStep}
 use Rattle.sent.specs.declared.Bus.{Bus}
+use Rattle.machine.specs.rules.Replies.{sentBytes}
 use Rattle.machine.specs.declared.Reply.{Reply}
 use Rattle.sent.specs.declared.Session.{Session}
 
@@ -52,6 +56,20 @@ fed bus x (u ∷ us) = fed bus (next bus x u) us
 unfoldable pub answers : Bus → State → List ℕ → List Heard
 answers bus x [] = []
 answers bus x (u ∷ us) = heard bus x u ∷ answers bus (next bus x u) us
+
+-- the bytes of replies, one after the other
+unfoldable pub replied : List Heard → List ℕ
+replied [] = []
+replied (h ∷ hs) = sentBytes (h .reply) ++ replied hs
+
+-- the first of two codes that is not 0
+unfoldable pub firstOf : ℕ → ℕ → ℕ
+firstOf q r = pick (eqb q 0) r q
+
+-- the code of the first refusal that is heard, 0 where there is none
+unfoldable pub firstRefused : List Heard → ℕ
+firstRefused [] = 0
+firstRefused (h ∷ hs) = firstOf (codeOf (h .refusal)) (firstRefused hs)
 
 -- no answer to some units is a refusal
 unfoldable pub NoneRefused : Bus → State → List ℕ → Type 0

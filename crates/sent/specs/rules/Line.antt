@@ -7,7 +7,7 @@ use lib.ListN.{length}
 use Rattle.words.specs.rules.Bytes.{byte}
 use Rattle.words.specs.rules.Choice.{pick}
 use Rattle.windows.specs.rules.Window.{sumOf}
-use Rattle.opcodes.specs.rules.Answers.{codeOf}
+use Rattle.opcodes.specs.rules.Answers.{accepted}
 use Rattle.opcodes.specs.declared.Event.the-variants.{Nothing}
 use Rattle.opcodes.specs.declared.Refusal.{Refusal}
 use Rattle.opcodes.specs.declared.Refusal.the-variants as refusal
@@ -44,7 +44,7 @@ carried s o =
         event = o .answer .event;
         session = record {
           core = o .answer .core;
-          line = pick (eqb (codeOf (o .answer .refusal)) 0) (record { started = s .line .started; have = 0; word = 0 }) (s .line);
+          line = pick (accepted (o .answer .refusal)) (record { started = s .line .started; have = 0; word = 0 }) (s .line);
         };
         wrote = o .answer .wrote;
       };

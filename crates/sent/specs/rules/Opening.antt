@@ -2,12 +2,11 @@
 use Prim.Native.Nat.{ℕ}
 use mathlib.Core.Bool.{Bool, true, false, not}
 use mathlib.Core.List.{List, [], _∷_}
-use lib.Dec.{eqb}
 use lib.ListN.{replicate}
 use Rattle.words.specs.rules.Choice.{pick}
 use Rattle.windows.specs.rules.Map.{goodMap, keptOf, zeroWindow}
 use Rattle.windows.specs.declared.Window.{Window}
-use Rattle.opcodes.specs.rules.Answers.{codeOf}
+use Rattle.opcodes.specs.rules.Answers.{accepted}
 use Rattle.opcodes.specs.declared.Dialect.{Dialect}
 use Rattle.opcodes.specs.declared.Dialect.the-variants.{Am17xx}
 use Rattle.opcodes.specs.declared.Refusal.the-variants.{None, Map}
@@ -55,4 +54,4 @@ fromOneOn s = record { core = numberedFromOne (s .core); line = s .line }
 -- an opening with such a session; a refused one is as it was
 unfoldable pub numberingFrom : Opened → Opened
 numberingFrom o =
-    pick (eqb (codeOf (o .refusal)) 0) (record { refusal = o .refusal; reply = o .reply; session = fromOneOn (o .session) }) o
+    pick (accepted (o .refusal)) (record { refusal = o .refusal; reply = o .reply; session = fromOneOn (o .session) }) o

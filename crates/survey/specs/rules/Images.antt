@@ -4,13 +4,11 @@ use mathlib.Core.Bool.{Bool, true, false, _&&_}
 use mathlib.Core.List.{List}
 use lib.Bits.{bitXor}
 use lib.Count.{ones}
-use lib.Dec.{eqb}
 use lib.ListN.{replicate}
 use Rattle.words.specs.rules.Bytes.{wordAt}
 use Rattle.words.specs.rules.Choice.{pick}
-use Rattle.opcodes.specs.rules.Answers.{codeOf}
 use Rattle.opcodes.specs.declared.Dialect.the-variants.{Am17xx}
-use Rattle.flash_runs.specs.rules.Run.{runOf}
+use Rattle.flash_runs.specs.rules.Run.{ranFrom}
 use Rattle.checking.specs.rules.Report.{opened, reportOf}
 use Rattle.survey.specs.declared.Image.{Image}
 use Rattle.survey.specs.declared.Outcome.{Outcome}
@@ -22,7 +20,7 @@ cleared = replicate 4096 0
 
 -- what the check program's run of an image leaves of cleared memory; a refused opening runs nothing
 unfoldable pub memoryLeft : List ℕ → List ℕ
-memoryLeft image = pick (eqb (codeOf (opened Am17xx image .refusal)) 0) (runOf (opened Am17xx image .session) cleared image .memory) cleared
+memoryLeft image = ranFrom (opened Am17xx image) cleared image .memory
 
 -- the outcome of an opened Am17xx image
 abbrev pub ended : Bool → Outcome

@@ -74,7 +74,8 @@ loop-again c =
 returns-4 : tie.Need-returns-4 Inv-loop μ-loop
 returns-4 c =
     let turn = c .before in
-    sym (carries-here (drop (turn .loop .i) (turn .before .args .t1)) (turn .before .args .right) (turn .loop .reached) (turn .before .args .end) (search needs))
+    sym (carries-here (drop (turn .loop .i) (turn .before .args .t1)) (turn .before .args .right) (turn .loop .reached) (turn .before .args .end)
+    (search needs))
     ∙ turn .loop .inv
 
 pub carries-on-spec : {M : Type 1} → statement M

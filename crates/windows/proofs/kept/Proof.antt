@@ -1,4 +1,5 @@
--- `windows::kept` meets its contract: to keep the first count of the windows as they are now, or as many as were looked at, gives what was asked of the windows at the start.
+-- `windows::kept` meets its contract: to keep the first count of the windows as they are now, or as many as were looked at, gives what was asked of the windows
+-- at the start.
 use mathlib.Core.Path.{_≡_, ap, _∙_}
 use Prim.Native.Nat.{ℕ, _-_, _≤_, max}
 use borrow.Author.Needs.{needs}

@@ -17,7 +17,8 @@ returns c =
     let start = c .before .before .before .before .before in
     let short =
     no-room (readingOf (start .args .text .now)) 20 (start .args .command .now)
-    (commandTold (commandFor (readingOf (start .args .text .now) .register) (start .args .name .now) (start .args .release) (start .args .value)) (start .args .command .now))
+    (commandTold (commandFor (readingOf (start .args .text .now) .register) (start .args .name .now) (start .args .release) (start .args .value))
+    (start .args .command .now))
     (c .before .if1 .taken) in (
       c .refuse .ensures ∙ ap (λ (t : Told). t .value) short,
       ap (λ (t : Told). t .room) short,
@@ -41,7 +42,8 @@ returns-2 c =
     let start = after-if1 .before .before .before .before in
     let bad =
     text-refused (readingOf (start .args .text .now)) 20 (start .args .command .now)
-    (commandTold (commandFor (readingOf (start .args .text .now) .register) (start .args .name .now) (start .args .release) (start .args .value)) (start .args .command .now))
+    (commandTold (commandFor (readingOf (start .args .text .now) .register) (start .args .name .now) (start .args .release) (start .args .value))
+    (start .args .command .now))
     (after-if1 .if1 .left) (λ e. c .before .if2 .taken (c .before .before .code .ensures ∙ rw (at-read .read .ensures) e)) in (
       c .read-value .ensures ∙ rw (at-read .read .ensures) (ap (λ (t : Told). t .value) bad),
       ap (λ (t : Told). t .room) bad,
@@ -66,7 +68,8 @@ returns-3 c =
     let start = after-if1 .before .before .before .before in
     let good =
     answered (readingOf (start .args .text .now)) 20 (start .args .command .now)
-    (commandTold (commandFor (readingOf (start .args .text .now) .register) (start .args .name .now) (start .args .release) (start .args .value)) (start .args .command .now))
+    (commandTold (commandFor (readingOf (start .args .text .now) .register) (start .args .name .now) (start .args .release) (start .args .value))
+    (start .args .command .now))
     (after-if1 .if1 .left) (rw (← at-read .read .ensures) (sym (at-number .code .ensures) ∙ after-if2 .if2 .left)) in (
       (rw (at-command .command .ensures, at-read .read .ensures) at (c .before .before .tell-command .ensures .0)) ∙ ap (λ (t : Told). t .value) good,
       (rw (at-command .command .ensures, at-read .read .ensures) at (c .before .before .tell-command .ensures .1)) ∙ ap (λ (t : Told). t .room) good,

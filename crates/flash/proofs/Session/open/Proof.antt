@@ -32,7 +32,8 @@ returns-2 : tie.Need-returns-2
 unfolding openedBy
 returns-2 c =
     c .shut2 .ensures
-    ∙ sym (passed _ _ _ (rw (c .before .before .before .before .is-good .ensures) at (c .before .before .before .if1 .left)) ∙ chosen _ _ _ (rw (c .before .before .is-length .ensures) at (c .before .if2 .taken)))
+    ∙ sym (passed _ _ _ (rw (c .before .before .before .before .is-good .ensures) at (c .before .before .before .if1 .left))
+    ∙ chosen _ _ _ (rw (c .before .before .is-length .ensures) at (c .before .if2 .taken)))
 
 word-at-requires : tie.Need-word-at-requires
 word-at-requires c κs = search needs
@@ -44,7 +45,8 @@ returns-3 : tie.Need-returns-3
 unfolding openedBy
 returns-3 c =
     c .shut3 .ensures
-    ∙ sym (passed _ _ _ (rw (c .before .before .before .before .before .before .is-good .ensures) at (c .before .before .before .before .before .if1 .left)) ∙ passed _ _ _ (rw (c .before .before .before .before .is-length .ensures) at (c .before .before .before .if2 .left))
+    ∙ sym (passed _ _ _ (rw (c .before .before .before .before .before .before .is-good .ensures) at (c .before .before .before .before .before .if1 .left))
+    ∙ passed _ _ _ (rw (c .before .before .before .before .is-length .ensures) at (c .before .before .before .if2 .left))
     ∙ chosen _ _ _ (ap not (ne-eqb _ _ (rw (c .before .before .word-at .ensures) at (c .before .if3 .taken)))))
 
 kept-requires : tie.Need-kept-requires
@@ -52,7 +54,11 @@ kept-requires c κs = search needs
 
 cast-begin : tie.Need-cast-begin
 cast-begin c =
-    omega (arith, length-small (length (now (c .before .before .before .before .before .before .before .before .args .image))) (sym (c .before .before .before .before .is-length .ensures) ∙ not-false _ (c .before .before .before .if2 .left)))
+    omega (
+      arith,
+      length-small (length (now (c .before .before .before .before .before .before .before .before .args .image)))
+          (sym (c .before .before .before .before .is-length .ensures) ∙ not-false _ (c .before .before .before .if2 .left)),
+    )
 
 begin-requires : tie.Need-begin-requires
 begin-requires c κs = search needs
@@ -61,7 +67,9 @@ returns-4 : tie.Need-returns-4
 unfolding openedBy
 returns-4 c =
     rw (c .begin .ensures, c .before .kept .ensures)
-    (sym (passed _ _ _ (rw (c .before .before .before .before .before .before .before .is-good .ensures) at (c .before .before .before .before .before .before .if1 .left)) ∙ passed _ _ _ (rw (c .before .before .before .before .before .is-length .ensures) at (c .before .before .before .before .if2 .left))
+    (sym (passed _ _ _ (rw (c .before .before .before .before .before .before .before .is-good .ensures) at
+    (c .before .before .before .before .before .before .if1 .left))
+    ∙ passed _ _ _ (rw (c .before .before .before .before .before .is-length .ensures) at (c .before .before .before .before .if2 .left))
     ∙ passed _ _ _ (ap not (eq-eqb _ _ (sym (c .before .before .before .word-at .ensures) ∙ c .before .before .if3 .left)))))
 
 pub open-spec : {M : Type 1} → statement M

@@ -1,28 +1,21 @@
--- `survey::Image::of` meets its contract: a refused opening and a run are the two cases of an opened image.
+-- `survey::Image::of` meets its contract: the image is opened as the check program opens it, and run from cleared memory.
+use Rattle.checking.specs.rules.Report.{lastAnswer, reportOf}
+use Rattle.survey.specs.rules.Images.{memoryLeft, imageOf}
 use borrow.Author.Needs.{needs}
-use mathlib.Core.Path.{sym}
-use Rattle.survey.proofs.Images.{opening-refused, opening-accepted}
 use Rattle.survey.proofs.Image.of.Statement.{statement}
 use Rattle.survey.proofs.Image.of.Tie as tie
 
 open-requires : tie.Need-open-requires
 open-requires c κs = search needs
 
+slice-aggregate-run-plain : tie.Need-slice-aggregate-run-plain
+slice-aggregate-run-plain c = search needs
+
+run-plain-requires : tie.Need-run-plain-requires
+run-plain-requires c κs = search needs
+
 code-requires : tie.Need-code-requires
 code-requires c κs = search needs
-
-returns : tie.Need-returns
-returns c =
-    sym (opening-refused _ (rw (c .before .code .ensures, c .before .before .«open» .ensures) at (c .if1 .taken)))
-
-slice-aggregate-run : tie.Need-slice-aggregate-run
-slice-aggregate-run c = search needs
-
-run-requires : tie.Need-run-requires
-run-requires c κs = search needs
-
-code-requires-2 : tie.Need-code-requires-2
-code-requires-2 c κs = search needs
 
 ended-requires : tie.Need-ended-requires
 ended-requires c κs = search needs
@@ -33,26 +26,22 @@ slice-aggregate-word-at c = search needs
 word-at-requires : tie.Need-word-at-requires
 word-at-requires c κs = search needs
 
-returns-2 : tie.Need-returns-2
-returns-2 c =
-    let numbered = c .before .before .before .before .before .before .before .before in
-    let opening = numbered .before .before .«open» .ensures in
-    let accepted = rw (numbered .before .code .ensures, opening) at (numbered .if1 .left) in
-    let run = rw opening at (c .before .before .before .before .before .run .ensures) in
-    rw (c .word-at .ensures, c .before .before .ended .ensures, c .before .before .before .code2 .ensures, run .0, run .1)
-    (sym (opening-accepted _ accepted))
+returns : tie.Need-returns
+unfolding lastAnswer reportOf memoryLeft imageOf
+returns c =
+    let run = rw (c .before .before .before .before .before .before .before .«open» .ensures) at
+    (c .before .before .before .before .before .run-plain .ensures) in
+    rw (c .word-at .ensures, c .before .before .ended .ensures, c .before .before .before .code .ensures, run .0, run .1)
 
 pub of-spec : {M : Type 1} → statement M
 of-spec =
     tie.close
     (tie.spec
     open-requires
+    slice-aggregate-run-plain
+    run-plain-requires
     code-requires
-    returns
-    slice-aggregate-run
-    run-requires
-    code-requires-2
     ended-requires
     slice-aggregate-word-at
     word-at-requires
-    returns-2)
+    returns)

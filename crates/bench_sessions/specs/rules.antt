@@ -1,0 +1,3 @@
+pub mod Feeding
+pub mod Map
+pub mod Numbers
