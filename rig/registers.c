@@ -136,7 +136,9 @@ static void differ(const char *what, uint64_t number, const struct text *text, u
 
 static void ask_bit(const struct text *text, uint64_t number)
 {
-    uint32_t word = number % 40 == 0 ? 0x1000 + 4 * draw(27) : PICK(addresses) + draw(20) / 19, bit = draw(20) == 0 ? draw(256) : draw(32), release = draw(4) == 0 ? draw(12000) : PICK(releases);
+    uint32_t word = number % 40 == 0 ? 0x1000 + 4 * draw(27) : PICK(addresses) + draw(20) / 19;
+    uint32_t bit = draw(20) == 0 ? draw(256) : draw(32);
+    uint32_t release = draw(4) == 0 ? draw(12000) : PICK(releases);
     size_t room = draw(8) == 0 ? draw(16) : 16 + draw(LARGEST_ROOM - 16);
     uint8_t one[LARGEST_ROOM], other[LARGEST_ROOM];
     uint64_t proved, plain;
