@@ -3,7 +3,7 @@ use ais_transcripts::ends;
 use ais_transcripts::images;
 use ais_transcripts::runs;
 use ais_transcripts::text;
-use machine::Reply;
+use machine_answers::Reply;
 use opcodes::Dialect;
 use sent::Answer;
 use sent::Session;

@@ -3,8 +3,8 @@
 use ais_transcripts::images;
 use ais_transcripts::runs::Flip;
 use ais_transcripts::runs::Setting;
-use flash::Called;
-use flash::Session;
+use flash_session::Called;
+use flash_session::Session;
 use opcodes::Dialect;
 use windows::Window;
 

@@ -1,7 +1,7 @@
 // An image run to the session's end, and what is shown of it.
 use crate::ends;
-use flash::Called;
-use flash::Session;
+use flash_session::Called;
+use flash_session::Session;
 use opcodes::Dialect;
 use opcodes::Event;
 use windows::Window;
@@ -78,7 +78,7 @@ fn show_request(session: Session, image: &[u8]) {
 fn turn(setting: Setting, session: Session, memory: &mut [u8], image: &mut [u8]) -> Called {
     misread_both(image, setting, session.retries);
     show_request(session, image);
-    let called = session.step(memory, image);
+    let called = flash::step(session, memory, image);
     misread_both(image, setting, session.retries);
     called
 }

@@ -11,8 +11,8 @@ use Rattle.windows.specs.rules.Window.{sumOf}
 use Rattle.opcodes.specs.rules.Answers.{codeOf}
 use Rattle.opcodes.specs.declared.Refusal.{Refusal}
 use Rattle.opcodes.specs.declared.Refusal.the-variants as refusal
-use Rattle.flash.specs.rules.Opening.{openedBy, numberingFrom}
-use Rattle.flash.specs.declared.Opened.{Opened}
+use Rattle.flash_session.specs.rules.Opening.{openedBy, numberingFrom}
+use Rattle.flash_session.specs.declared.Opened.{Opened}
 use Rattle.flash_runs.specs.rules.Entries.{entriesFrom}
 use Rattle.flash_runs.specs.rules.Run.{ranFrom}
 use Rattle.bit_choice.specs.rules.Chosen.{chosenPlaces}

@@ -8,15 +8,15 @@ use borrow.Author.Tests.{not-false}
 use Rattle.words.proofs.Choice.{of-choice}
 use Rattle.windows.specs.declared.Window.{Window}
 use Rattle.opcodes.specs.declared.Dialect.{Dialect}
-use Rattle.flash.specs.claims.Calls.{Way, forward, back, kept, Call}
-use Rattle.flash.specs.rules.Opening.{openedBy, numberingFrom}
-use Rattle.flash.specs.rules.Sessions.{CallOutcome}
+use Rattle.flash_commands.specs.claims.Ways.{Way, forward, back, kept, Call}
+use Rattle.flash_session.specs.rules.Opening.{openedBy, numberingFrom}
+use Rattle.flash_session.specs.rules.Sessions.{CallOutcome}
 use Rattle.flash.specs.rules.Step.{stepOf}
-use Rattle.flash.specs.declared.Called.{Called}
-use Rattle.flash.specs.declared.Opened.{Opened}
-use Rattle.flash.specs.declared.Session.{Session}
-use Rattle.flash.proofs.Calls.{every-call}
-use Rattle.flash.proofs.Cases.{length-small}
+use Rattle.flash_session.specs.declared.Called.{Called}
+use Rattle.flash_session.specs.declared.Opened.{Opened}
+use Rattle.flash_session.specs.declared.Session.{Session}
+use Rattle.flash_laws.proofs.Calls.{every-call}
+use Rattle.flash_session.proofs.Lengths.{length-small}
 use Rattle.flash_runs.specs.rules.Run.{carriedOn, enough, runOf, ranFrom}
 
 module _ (bound : ℕ) where

@@ -12,17 +12,17 @@ use Rattle.sent.specs.rules.Bus.{unitsInWord, pushed}
 use Rattle.sent.specs.rules.Feeding.{State, next, heard, answers, replied}
 use Rattle.machine.specs.claims.Every.{EveryWord}
 use Rattle.sent.specs.rules.Line.{UnitOutcome, carried, unitStep}
-use Rattle.machine.specs.rules.Machine as machine
+use Rattle.machine_answers.specs.rules.Answers as machine
 use Rattle.opcodes.specs.declared.Dialect.{Dialect}
 use Rattle.sent.specs.rules.Opening.{greeting, openedBy, numberingFrom}
-use Rattle.machine.specs.rules.Replies.{silence, sentBytes}
+use Rattle.machine_answers.specs.rules.Replies.{silence, sentBytes}
 use Rattle.sent.specs.rules.Line.{startAnswer}
 use Rattle.sent.specs.declared.Bus.{Bus}
 use Rattle.sent.specs.declared.Bus.the-variants.{Bytes, Halves}
-use Rattle.machine.specs.declared.Core.{Core}
+use Rattle.machine_answers.specs.declared.Core.{Core}
 use Rattle.sent.specs.declared.Line.{Line}
 use Rattle.sent.specs.declared.Opened.{Opened}
-use Rattle.machine.specs.declared.Reply.{Reply}
+use Rattle.machine_answers.specs.declared.Reply.{Reply}
 use Rattle.sent.specs.declared.Session.{Session}
 use Rattle.machine.proofs.Every.{every-word}
 use Rattle.bench_sessions.specs.rules.Feeding.{mostFed, openingRoom, unitRoom}

@@ -13,10 +13,10 @@ use Rattle.words.proofs.Choice.{chosen, passed, by-test}
 use Rattle.opcodes.specs.rules.Answers.{codeOf}
 use Rattle.sent.specs.rules.Feeding.{State, Heard, heard, fed, answers, replied, firstOf, firstRefused}
 use Rattle.sent.specs.rules.Line.{unitStep}
-use Rattle.machine.specs.rules.Replies.{sentBytes}
+use Rattle.machine_answers.specs.rules.Replies.{sentBytes}
 use Rattle.sent.specs.declared.Answer.{Answer}
 use Rattle.sent.specs.declared.Bus.{Bus}
-use Rattle.machine.specs.declared.Reply.{Reply}
+use Rattle.machine_answers.specs.declared.Reply.{Reply}
 use Rattle.sent.specs.declared.Session.{Session}
 use Rattle.bit_watch.specs.rules.Watched.{unitEntries, entriesAfter}
 use Rattle.bench_sessions.specs.rules.Feeding.{openingRoom, unitRoom, fedFrom}

@@ -9,7 +9,7 @@ ghost use lib.Seq.{sets};
 ghost use Rattle.opcodes.specs.rules.Answers.{codeOf};
 ghost use Rattle.sent.specs.rules.Bus.{unitsFed};
 ghost use Rattle.sent.specs.rules.Feeding.{firstOf};
-ghost use Rattle.machine.specs.rules.Replies.{sentBytes};
+ghost use Rattle.machine_answers.specs.rules.Replies.{sentBytes};
 ghost use Rattle.bench_sessions.specs.rules.Feeding.{outcome, unitBytes, mostFed, openingRoom, unitRoom, roomy, sentSession, lineSession};
 ghost use Rattle.bench_sessions.specs.rules.Numbers.{
   watched,
@@ -24,7 +24,7 @@ ghost use Rattle.bench_sessions.specs.rules.Numbers.{
   bitsSession,
 };
 use bit_choice::Choice;
-use machine::Reply;
+use machine_answers::Reply;
 use opcodes::Dialect;
 use opcodes::Refusal;
 use sent::Bus;

@@ -42,12 +42,13 @@ use Rattle.law_effects.proofs.Wrote.{fill-reports, commands-tell}
 use Rattle.bit_stamps.specs.rules.Stamps.{entryAt}
 use Rattle.bit_history.specs.claims.History.{Numbered, numbersFit, stampedAll}
 use Rattle.bit_history.proofs.History.{history-laws}
-use Rattle.flash.specs.rules.Opening.{goodLength}
-use Rattle.flash.specs.rules.Sessions.{CallOutcome, _leaving_, fetching, unchanged, stopped}
-use Rattle.flash.specs.rules.Step.{after, loadDone, loadAt, loadJudgedAs, fillJudgedAs, settingJudgedAs, soughtAs, requested, performed, followed, stepOf}
-use Rattle.flash.specs.claims.Totals.{Lent, answerTo}
-use Rattle.flash.specs.declared.Called.{Called}
-use Rattle.flash.specs.declared.Session.{Session}
+use Rattle.flash_session.specs.rules.Opening.{goodLength}
+use Rattle.flash_session.specs.rules.Sessions.{CallOutcome, _leaving_, fetching, unchanged, stopped, after}
+use Rattle.flash.specs.rules.Step.{loadDone, loadAt, loadJudgedAs, performed, followed, stepOf}
+use Rattle.flash_commands.specs.rules.Commands.{fillJudgedAs, settingJudgedAs, soughtAs, requested}
+use Rattle.flash_laws.specs.claims.Totals.{Lent, answerTo}
+use Rattle.flash_session.specs.declared.Called.{Called}
+use Rattle.flash_session.specs.declared.Session.{Session}
 use Rattle.flash_runs.specs.rules.Entries.{numberWrote, callEntries, stampsOn, runStamps}
 use Rattle.flash_runs.specs.rules.Run.{goesOn, enough}
 use Rattle.bit_history.specs.claims.Accepted.{one, judgedOne}

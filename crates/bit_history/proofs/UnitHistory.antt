@@ -25,11 +25,11 @@ use Rattle.sent.specs.rules.Feeding.{State, next}
 use Rattle.sent.specs.rules.Line.{UnitOutcome, plainly, gathered, carried, isStart, unitStep}
 use Rattle.machine.specs.rules.Machine.{wordStep}
 use Rattle.sent.specs.rules.Opening.{openedBy, numberingFrom}
-use Rattle.machine.specs.rules.Replies.{silence}
+use Rattle.machine_answers.specs.rules.Replies.{silence}
 use Rattle.sent.specs.rules.Line.{startAnswer}
 use Rattle.sent.specs.declared.Bus.{Bus}
 use Rattle.sent.specs.declared.Opened.{Opened}
-use Rattle.machine.specs.declared.Reply.{Reply}
+use Rattle.machine_answers.specs.declared.Reply.{Reply}
 use Rattle.sent.specs.declared.Session.{Session}
 use Rattle.bit_watch.specs.rules.Watched.{unitEntries, entriesAfter}
 use Rattle.bit_history.specs.claims.UnitHistory.{wordHistory, endsWord, unitHistory, history, atOpening, Led, opened, numbering, stepped, UnitsTell}

@@ -37,14 +37,17 @@ use Rattle.law_effects.specs.claims.Wrote.{Reports, Tells}
 use Rattle.law_effects.proofs.Effects.{load-does}
 use Rattle.law_effects.proofs.Wrote.{fill-reports, commands-tell}
 use Rattle.bit_history.specs.claims.History.{Numbered, numbersFit}
-use Rattle.machine.specs.rules.Machine.{WordOutcome, _leaving_, await, countedOn, quiet, writing, after, entered, noneKept, keeping, awaited, loadBegun}
-use Rattle.machine.specs.rules.Machine.{dataBytes, echoing, performed, toward, begun, acknowledging, opening, atOpcode, inPhase, wordStep}
-use Rattle.machine.specs.declared.Core.{Core}
-use Rattle.machine.specs.declared.Kept.{Kept}
-use Rattle.machine.specs.declared.Phase.{Phase}
-use Rattle.machine.specs.declared.Phase.the-variants as phase
-use Rattle.machine.specs.declared.Taken.{Taken}
-use Rattle.machine.proofs.Cases.{granted-inside}
+use Rattle.machine_answers.specs.rules.Answers.{WordOutcome, _leaving_, await, quiet, writing, after, entered}
+use Rattle.machine_answers.specs.rules.Counts.{countedOn}
+use Rattle.machine_loads.specs.rules.Loads.{awaited, loadBegun, dataBytes}
+use Rattle.machine_commands.specs.rules.Performed.{noneKept, echoing, performed}
+use Rattle.machine.specs.rules.Machine.{keeping, toward, begun, acknowledging, opening, atOpcode, inPhase, wordStep}
+use Rattle.machine_answers.specs.declared.Core.{Core}
+use Rattle.machine_answers.specs.declared.Kept.{Kept}
+use Rattle.machine_answers.specs.declared.Phase.{Phase}
+use Rattle.machine_answers.specs.declared.Phase.the-variants as phase
+use Rattle.machine_answers.specs.declared.Taken.{Taken}
+use Rattle.machine_loads.proofs.Laws.{granted-inside}
 use Rattle.bit_history.specs.claims.Accepted.{judgedOne}
 use Rattle.bit_history.specs.claims.UnitHistory.{lastWord, acceptedWord, wordHistory}
 use Rattle.bit_history.proofs.Agreeing.{Agrees, agrees-none, agrees-one, agrees-shape, fit-one, same-choice}

@@ -8,7 +8,7 @@ use Rattle.words.proofs.Choice.{chosen, passed}
 use Rattle.opcodes.specs.rules.Answers.{codeOf}
 use Rattle.opcodes.specs.declared.Dialect.the-variants.{Am17xx}
 use Rattle.bit_choice.specs.rules.Chosen.{choiceOf}
-use Rattle.flash.specs.rules.Opening.{numberingFrom}
+use Rattle.flash_session.specs.rules.Opening.{numberingFrom}
 use Rattle.checking.specs.rules.Report.{windows, opened}
 use Rattle.bit_runs.specs.rules.Runs.{Left, notChosen, leftFrom, leftBy}
 use Rattle.bit_runs.specs.declared.Traced.{Traced}

@@ -3,8 +3,8 @@
 ghost use mathlib.Core.Path.{_≡_};
 ghost use Rattle.bit_runs.specs.rules.Runs.{notChosen, ended, leftBy};
 use bit_choice::Chosen;
-use flash::Called;
-use flash::Session;
+use flash_session::Called;
+use flash_session::Session;
 use opcodes::Dialect;
 
 // How the run ended, and the chosen words. Where they are refused nothing is run.

@@ -12,9 +12,9 @@ use Rattle.opcodes.specs.rules.Answers.{codeOf}
 use Rattle.opcodes.specs.declared.Refusal.{Refusal}
 use Rattle.opcodes.specs.declared.Refusal.the-variants.{Map, Image}
 use Rattle.opcodes.specs.declared.Dialect.the-variants.{Am17xx}
-use Rattle.flash.specs.rules.Opening.{goodLength, refusedBy, openedBy}
-use Rattle.flash.specs.rules.Sessions.{CallOutcome}
-use Rattle.flash.specs.declared.Opened.{Opened}
+use Rattle.flash_session.specs.rules.Opening.{goodLength, refusedBy, openedBy}
+use Rattle.flash_session.specs.rules.Sessions.{CallOutcome}
+use Rattle.flash_session.specs.declared.Opened.{Opened}
 use Rattle.flash_runs.specs.claims.Ceiling.{ceiling}
 use Rattle.flash_runs.specs.rules.Run.{ranFrom}
 use Rattle.flash_runs.proofs.Ceiling.{opened-within, ceilings}

@@ -1,13 +1,13 @@
 // What the check program decides, and what is told of the words that an image fetches: it is opened and run, and reported.
 ghost use mathlib.Core.Path.{_≡_};
-ghost use Rattle.flash.specs.rules.Opening.{openedBy};
+ghost use Rattle.flash_session.specs.rules.Opening.{openedBy};
 ghost use Rattle.checking.specs.rules.Counting.{mostOf, countedOf};
 ghost use Rattle.checking.specs.rules.Limit.{limitOf};
 ghost use Rattle.checking.specs.rules.Report.{windows, opened, reported, lastAnswer, reportOf};
 use digits::Number;
-use flash::Called;
-use flash::Opened;
-use flash::Session;
+use flash_session::Called;
+use flash_session::Opened;
+use flash_session::Session;
 use opcodes::Dialect;
 use windows::Window;
 
@@ -109,7 +109,7 @@ pub fn check(dialect: Dialect, image: &[u8]) -> Report
 fn ceiling_of(n: usize, limit: u8) -> u32
     ensures { λ r. ⌜ r ≡ mostOf n limit ⌝ }
 {
-    if flash::is_length(n) {
+    if flash_session::is_length(n) {
         return ((limit as u32) + 1) * ((n / 4) as u32);
     }
     0

@@ -1,5 +1,6 @@
 pub mod BitsUniqueness
 pub mod FeedingUniqueness
+pub mod FlashUniqueness
 pub mod MarkedExamples
 pub mod RegisterUniqueness
 pub mod TouchingExamples

@@ -55,10 +55,6 @@ use Rattle.commands.proofs.wrote_none.Reads as wrote_none
 use Rattle.commands.proofs.wrote_bytes.Reads as wrote_bytes
 use Rattle.commands.proofs.wrote_setting.Reads as wrote_setting
 use Rattle.commands.proofs.seek.Reads as seek
-use Rattle.flash.proofs.is_length.Reads as is_length
-use Rattle.flash.proofs.Session.«open».Reads as flash-opening
-use Rattle.flash.proofs.Session.open_numbering.Reads as flash-numbering
-use Rattle.flash.proofs.Session.step.Reads as flash-step
 use Rattle.flash_runs.proofs.run_plain.Reads as run_plain
 use Rattle.checking.proofs.check.Reads as check
 use Rattle.checking.proofs.count_fetches.Reads as count_fetches
@@ -79,7 +75,23 @@ use Rattle.sent.proofs.open_numbering.Reads as sent-numbering
 use Rattle.sent.proofs.Session.step.Reads as sent-step
 use Rattle.sent.proofs.Session.step_half.Reads as half-step
 use Rattle.sent.proofs.Session.step_at.Reads as step-at
-use Rattle.machine.proofs.silent.Reads as silent
+use Rattle.machine_answers.proofs.silent.Reads as silent
+use Rattle.machine_answers.proofs.reply_word.Reads as reply_word
+use Rattle.machine_answers.proofs.moved.Reads as moved
+use Rattle.machine_answers.proofs.refuse.Reads as refuse
+use Rattle.machine_answers.proofs.say.Reads as say
+use Rattle.machine_answers.proofs.tell_wrote.Reads as tell_wrote
+use Rattle.machine_answers.proofs.finish.Reads as finish
+use Rattle.machine_answers.proofs.enter.Reads as enter
+use Rattle.machine_answers.proofs.counts.judge_number.Reads as judge_number
+use Rattle.machine_answers.proofs.counts.judge_count.Reads as judge_count
+use Rattle.machine_answers.proofs.counts.count_on.Reads as count_on
+use Rattle.machine_answers.proofs.counts.less_one.Reads as less_one
+use Rattle.machine_answers.proofs.counts.four_at_most.Reads as four_at_most
+use Rattle.machine_loads.proofs.begin_load.Reads as begin_load
+use Rattle.machine_loads.proofs.take_data.Reads as take-data
+use Rattle.machine_commands.proofs.echo.Reads as echo
+use Rattle.machine_commands.proofs.perform.Reads as perform
 use Rattle.machine.proofs.take_word.Reads as take_word
 use Rattle.sent.specs.rules.Line.{UnitOutcome}
 use Rattle.sent.specs.declared.Session.{Session}
@@ -283,19 +295,6 @@ jump-and-close-unique κs a r s e f = same
 pub seek-unique : OneResult seek.Post
 seek-unique κs a r s e f = same
 
--- flash
-pub is-length-unique : OneResult is_length.Post
-is-length-unique κs a r s e f = same
-
-pub flash-open-unique : OneResult flash-opening.Post
-flash-open-unique κs a r s e f = same
-
-pub flash-open-numbering-unique : OneResult flash-numbering.Post
-flash-open-numbering-unique κs a r s e f = same
-
-pub flash-step-unique : OneResultAndMemory flash-step.Post (λ κs e. now (e .1 .0))
-flash-step-unique κs a r s e f = both-same
-
 -- runs
 pub run-plain-unique : OneResultAndMemory run_plain.Post (λ κs e. now (e .1 .0))
 run-plain-unique κs a r s e f = both-same
@@ -360,9 +359,61 @@ half-step-unique κs a r s e f = both-same
 pub step-at-unique : OneResultAndMemory step-at.Post (λ κs e. now (e .1 .0))
 step-at-unique κs a r s e f = both-same
 
+-- machine_answers
 pub silent-unique : OneResult silent.Post
 silent-unique κs a r s e f = same
 
+pub reply-word-unique : OneResult reply_word.Post
+reply-word-unique κs a r s e f = same
+
+pub moved-unique : OneResult moved.Post
+moved-unique κs a r s e f = same
+
+pub refuse-unique : OneResult refuse.Post
+refuse-unique κs a r s e f = same
+
+pub say-unique : OneResult say.Post
+say-unique κs a r s e f = same
+
+pub tell-wrote-unique : OneResult tell_wrote.Post
+tell-wrote-unique κs a r s e f = same
+
+pub finish-unique : OneResult finish.Post
+finish-unique κs a r s e f = same
+
+pub enter-unique : OneResult enter.Post
+enter-unique κs a r s e f = same
+
+pub judge-number-unique : OneResult judge_number.Post
+judge-number-unique κs a r s e f = same
+
+pub judge-count-unique : OneResult judge_count.Post
+judge-count-unique κs a r s e f = same
+
+pub count-on-unique : OneResult count_on.Post
+count-on-unique κs a r s e f = same
+
+pub less-one-unique : OneResult less_one.Post
+less-one-unique κs a r s e f = same
+
+pub four-at-most-unique : OneResult four_at_most.Post
+four-at-most-unique κs a r s e f = same
+
+-- machine_loads
+pub begin-load-unique : OneResult begin_load.Post
+begin-load-unique κs a r s e f = same
+
+pub take-data-unique : OneResultAndMemory take-data.Post (λ κs e. now (e .1 .0))
+take-data-unique κs a r s e f = both-same
+
+-- machine_commands
+pub echo-unique : OneResult echo.Post
+echo-unique κs a r s e f = same
+
+pub perform-unique : OneResultAndMemory perform.Post (λ κs e. now (e .1 .0))
+perform-unique κs a r s e f = both-same
+
+-- machine
 pub take-word-unique : OneResultAndMemory take_word.Post (λ κs e. now (e .1 .0))
 take-word-unique κs a r s e f = both-same
 

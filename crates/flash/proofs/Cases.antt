@@ -1,14 +1,14 @@
 -- What a call comes to, by the facts that its tests ask. Each law takes the tests of a definition one after the other.
-use Prim.Native.Nat.{ℕ, _+_, _%_, _≤_}
+use Prim.Native.Nat.{ℕ, _+_, _≤_}
 use mathlib.Core.Bool.{true, false, not, _&&_}
 use mathlib.Core.List.{List}
 use mathlib.Core.Path.{_≡_, ap, _∙_}
 use native.Mathlib.Omega.{arith}
-use lib.Dec.{eqb, leb}
+use lib.Dec.{eqb}
 use lib.ListN.{length}
-use borrow.Author.Tests.{eq-eqb, ne-eqb, leb-true, eqb-true}
+use borrow.Author.Tests.{eq-eqb, ne-eqb}
 use Rattle.words.specs.rules.Bytes.{wordAt}
-use Rattle.words.proofs.Choice.{chosen, passed, both}
+use Rattle.words.proofs.Choice.{chosen, passed}
 use Rattle.windows.specs.rules.Window.{sumOf}
 use Rattle.opcodes.specs.rules.Opcodes.{lookedUp}
 use Rattle.opcodes.specs.declared.Command.{Command}
@@ -18,25 +18,10 @@ use Rattle.opcodes.specs.declared.Refusal.the-variants as refusal
 use Rattle.ledger.specs.rules.Totals.{isSpent}
 use Rattle.reading.specs.rules.Reading.{present, pastWords, dataWords, readAt}
 use Rattle.reading.proofs.Reading.{read-row, row-whole}
-use Rattle.commands.specs.rules.Commands.{multiple}
-use Rattle.flash.specs.rules.Opening.{goodLength}
-use Rattle.flash.specs.rules.Sessions.{_leaving_, fetching, unchanged, stopped}
+use Rattle.flash_session.specs.rules.Opening.{goodLength}
+use Rattle.flash_session.specs.rules.Sessions.{_leaving_, fetching, unchanged, stopped}
 use Rattle.flash.specs.rules.Step.{loadDone, loadAt, performed, followed, stepOf}
-use Rattle.flash.specs.declared.Session.{Session}
-
--- an image has at most 65,536 bytes
-pub length-small : (n : ℕ) → goodLength n ≡ true → n ≤ 65536
-unfolding goodLength
-length-small n e = leb-true _ _ (both (multiple n 4 && leb 4 n) (leb n 65536) e .1)
-
--- nor has one that is also as long as that of the opening
-pub image-small : (n k : ℕ) → (goodLength n && eqb n k) ≡ true → n ≤ 65536
-image-small n k e = length-small n (both (goodLength n) (eqb n k) e .0)
-
--- an image has whole words
-pub length-whole : (n : ℕ) → goodLength n ≡ true → n % 4 ≡ 0
-unfolding goodLength multiple
-length-whole n e = eqb-true _ _ (both (eqb (n % 4) 0) (leb 4 n) (both (eqb (n % 4) 0 && leb 4 n) (leb n 65536) e .0) .0)
+use Rattle.flash_session.specs.declared.Session.{Session}
 
 module _ (s : Session) (m image : List ℕ) where
   -- a load granted at a place: its data cut short, no number for it, and one

@@ -1,2 +1,1 @@
-pub mod claims
 pub mod rules

@@ -1,3 +1,1 @@
-pub mod Opening
-pub mod Sessions
 pub mod Step

@@ -7,9 +7,9 @@ use mathlib.Core.Path.{_≡_, refl, ap}
 use borrow.Author.Tests.{eq-eqb, ne-eqb}
 use Rattle.words.proofs.Choice.{chosen, passed}
 use Rattle.opcodes.specs.rules.Answers.{codeOf}
-use Rattle.flash.specs.rules.Sessions.{CallOutcome}
+use Rattle.flash_session.specs.rules.Sessions.{CallOutcome}
 use Rattle.flash.specs.rules.Step.{stepOf}
-use Rattle.flash.specs.declared.Called.{Called}
+use Rattle.flash_session.specs.declared.Called.{Called}
 use Rattle.flash_runs.specs.rules.Run.{goesOn, carriedOn}
 
 -- a call that is accepted goes on unless it ended the session

@@ -17,11 +17,11 @@ use Rattle.opcodes.specs.rules.Opcodes.{rows, rowServes, foundIn, lookedUp}
 use Rattle.opcodes.specs.declared.Dialect.{Dialect}
 use Rattle.reading.specs.rules.Reading.{present, argument, readAt}
 use Rattle.commands.specs.rules.Commands.{multiple, entryJudged, closeDone}
-use Rattle.flash.specs.rules.Opening.{goodLength, openedBy}
-use Rattle.flash.specs.claims.Reached.{Reached, opened, called}
-use Rattle.flash.specs.rules.Sessions.{CallOutcome, countedOn}
-use Rattle.flash.specs.rules.Step.{after, stepOf}
-use Rattle.flash.specs.declared.Session.{Session}
+use Rattle.flash_session.specs.rules.Opening.{goodLength, openedBy}
+use Rattle.flash_laws.specs.claims.Reached.{Reached, opened, called}
+use Rattle.flash_session.specs.rules.Sessions.{CallOutcome, countedOn, after}
+use Rattle.flash.specs.rules.Step.{stepOf}
+use Rattle.flash_session.specs.declared.Session.{Session}
 use Rattle.flash_runs.specs.rules.Run.{carriedOn, enough, runOf}
 use Rattle.flash_runs.specs.claims.Ceiling.{wordsOf, ceiling, Ceiling, CeilingMet}
 use Rattle.flash_runs.specs.claims.Fetched.{prescribed, limitOf}

@@ -11,12 +11,12 @@ use borrow.Author.Tests.{eqb-true, eqb-false}
 use Rattle.words.proofs.Choice.{by-test}
 use Rattle.opcodes.specs.rules.Answers.{codeOf, kindOf}
 use Rattle.opcodes.specs.declared.Refusal.the-variants.{None, Ended as Over}
-use Rattle.flash.specs.claims.Calls.{Forward, Back, Way, forward, back, kept, Call}
-use Rattle.flash.specs.rules.Sessions.{CallOutcome, unchanged}
+use Rattle.flash_commands.specs.claims.Ways.{Forward, Back, Way, forward, back, kept, Call}
+use Rattle.flash_session.specs.rules.Sessions.{CallOutcome, unchanged}
 use Rattle.flash.specs.rules.Step.{stepOf}
-use Rattle.flash.specs.declared.Called.{Called}
-use Rattle.flash.specs.declared.Session.{Session}
-use Rattle.flash.proofs.Calls.{every-call}
+use Rattle.flash_session.specs.declared.Called.{Called}
+use Rattle.flash_session.specs.declared.Session.{Session}
+use Rattle.flash_laws.proofs.Calls.{every-call}
 use Rattle.flash.proofs.Cases.{call-ended}
 use Rattle.flash_runs.specs.rules.Run.{goesOn, carriedOn, enough, runOf}
 use Rattle.flash_runs.specs.claims.Ends.{RunEnds, Ended, entering, refused}

@@ -19,17 +19,19 @@ use Rattle.opcodes.specs.declared.Refusal.{Refusal}
 use Rattle.opcodes.specs.declared.Refusal.the-variants.{None, Map, Image, Magic, Ended}
 use Rattle.reading.specs.rules.Reading.{wordsFrom}
 use Rattle.commands.specs.rules.Commands.{multiple}
-use Rattle.flash.specs.claims.Calls.{met, Reads, Forward, Back, Kept, spares, Way, forward, back, kept, Call}
+use Rattle.flash_commands.specs.claims.Ways.{met, Reads, Forward, Back, Kept, spares, Way, forward, back, kept, Call}
 use Rattle.opcodes.specs.declared.Dialect.{Dialect}
-use Rattle.flash.specs.rules.Opening.{goodLength, openedBy}
-use Rattle.flash.specs.claims.Reached.{Reached, opened, called}
-use Rattle.flash.specs.rules.Sessions.{CallOutcome, countedOn}
+use Rattle.flash_session.specs.rules.Opening.{goodLength, openedBy}
+use Rattle.flash_laws.specs.claims.Reached.{Reached, opened, called}
+use Rattle.flash_session.specs.rules.Sessions.{CallOutcome, countedOn}
 use Rattle.flash.specs.rules.Step.{stepOf}
-use Rattle.flash.specs.declared.Called.{Called}
-use Rattle.flash.specs.declared.Opened.{Opened}
-use Rattle.flash.specs.declared.Session.{Session}
-use Rattle.flash.proofs.Calls.{counted-none, counted-both, not-over, every-call}
-use Rattle.flash.proofs.Cases.{length-small, call-ended}
+use Rattle.flash_session.specs.declared.Called.{Called}
+use Rattle.flash_session.specs.declared.Opened.{Opened}
+use Rattle.flash_session.specs.declared.Session.{Session}
+use Rattle.flash_commands.proofs.Ways.{counted-none, counted-both, not-over}
+use Rattle.flash_laws.proofs.Calls.{every-call}
+use Rattle.flash_session.proofs.Lengths.{length-small}
+use Rattle.flash.proofs.Cases.{call-ended}
 use Rattle.flash_runs.specs.claims.Ceiling.{wordsOf}
 use Rattle.flash_runs.specs.claims.Fetched.{openingFetches, callFetches, prescribed, limitOf, CountsAsPrescribed}
 

@@ -8,10 +8,10 @@ use native.Mathlib.Omega.{arith}
 use Rattle.words.proofs.Choice.{chosen, passed}
 use Rattle.commands.specs.declared.Wrote.{Wrote}
 use Rattle.bit_stamps.specs.rules.Stamps.{stamped}
-use Rattle.flash.specs.rules.Sessions.{CallOutcome, _leaving_}
+use Rattle.flash_session.specs.rules.Sessions.{CallOutcome, _leaving_}
 use Rattle.flash.specs.rules.Step.{stepOf}
-use Rattle.flash.specs.declared.Called.{Called}
-use Rattle.flash.specs.declared.Session.{Session}
+use Rattle.flash_session.specs.declared.Called.{Called}
+use Rattle.flash_session.specs.declared.Session.{Session}
 use Rattle.flash_runs.specs.rules.Entries.{numberWrote, offsetWrote, stampsOn, callEntries, callOffsets}
 use Rattle.flash_runs.specs.rules.Run.{goesOn, carriedOn}
 use Rattle.flash_runs.proofs.Calls as calls

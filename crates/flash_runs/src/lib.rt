@@ -8,9 +8,9 @@ ghost use Rattle.flash_runs.specs.rules.Entries.{callEntries, callOffset
 ghost use Rattle.commands.specs.rules.Wrote.{renumbered};
 ghost use Rattle.flash_runs.specs.rules.Run.{goesOn, runOf, ranFrom};
 use commands::Wrote;
-use flash::Called;
-use flash::Opened;
-use flash::Session;
+use flash_session::Called;
+use flash_session::Opened;
+use flash_session::Session;
 use opcodes::Event;
 
 // Does the session go on after a call?
@@ -78,7 +78,7 @@ fn call(
     ensures { λ _.
         ⌜ now (offsets .exit) ≡ callOffsets (take count (now (places .entry))) (now (offsets .entry)) session (now (memory .entry)) (now (image .entry)) ⌝ }
 {
-    let called = session.step(memory, image);
+    let called = flash::step(session, memory, image);
     let wrote = called.wrote;
     stamp_both(wrote, called.at, count, places, numbers, offsets);
     called

@@ -38,21 +38,25 @@ use Rattle.commands.specs.declared.Sought.{Sought}
 use Rattle.commands.specs.declared.Sought.the-variants as sought
 use Rattle.commands.specs.declared.Wrote.{Wrote}
 use Rattle.commands.proofs.Judging.{unbarred, bars}
-use Rattle.flash.specs.rules.Sessions as flash
+use Rattle.flash_session.specs.rules.Sessions as flash
+use Rattle.flash_commands.specs.rules.Commands as flash-commands
 use Rattle.flash.specs.rules.Step as step
 use Rattle.flash.specs.rules.Step.{stepOf}
-use Rattle.flash.specs.declared.Called.{Called}
-use Rattle.flash.specs.declared.Session.{Session}
+use Rattle.flash_session.specs.declared.Called.{Called}
+use Rattle.flash_session.specs.declared.Session.{Session}
 use Rattle.reading.specs.rules.Reading.{pastWords, argument, dataWords}
 use Rattle.reading.proofs.Reading.{there as are-present}
 use Rattle.flash.proofs.Cases.{load-spent, load-whole, call-whole}
-use Rattle.machine.specs.rules.Machine as machine
-use Rattle.machine.specs.rules.Machine.{noneKept, acknowledging, begun, wordStep}
-use Rattle.machine.specs.rules.Replies.{silence, farewell}
+use Rattle.machine_answers.specs.rules.Answers as machine
+use Rattle.machine_answers.specs.rules.Counts.{countedOn, overflowing, outOfNumbers}
+use Rattle.machine_loads.specs.rules.Loads.{loadBegun}
+use Rattle.machine_commands.specs.rules.Performed.{noneKept}
+use Rattle.machine.specs.rules.Machine.{keeping, acknowledging, begun, wordStep}
+use Rattle.machine_answers.specs.rules.Replies.{silence, farewell}
 use Rattle.machine.specs.claims.Words.{afterWords, asking, doneAtLast, doneWith}
-use Rattle.machine.specs.declared.Core.{Core}
-use Rattle.machine.specs.declared.Phase.the-variants.{Opcode}
-use Rattle.machine.specs.declared.Taken.{Taken}
+use Rattle.machine_answers.specs.declared.Core.{Core}
+use Rattle.machine_answers.specs.declared.Phase.the-variants.{Opcode}
+use Rattle.machine_answers.specs.declared.Taken.{Taken}
 use Rattle.machine.proofs.ByTheTable.{after-append, by-the-table}
 use Rattle.machine.proofs.Laws.{unwritten, load-in-pieces}
 use Rattle.law_modes.specs.claims.Modes.{Alike, Same, wordsAt, Before, sentWith, SameLoad, requestSent, RequestByMode, RowsOf, BothModes, SharedRows}
@@ -127,8 +131,8 @@ module _ (k : Core) (totals : Totals) (same : totals ≡ settled (k .tally .tota
 
   -- a command that was judged and done
   done-same : (wrote : Wrote) (done : Done) (n : ℕ) (memory : List ℕ)
-      → Same (flash._leaving_ (step.after s h wrote done n) memory) (machine._leaving_ (machine.after k left done) memory)
-  unfolding step.after machine.after pick
+      → Same (flash._leaving_ (flash.after s h wrote done n) memory) (machine._leaving_ (machine.after k left done) memory)
+  unfolding flash.after machine.after pick
   done-same wrote done n memory = go (eqb (codeOf (done .refusal)) 0)
     where
       go : (t : Bool) → Same
@@ -159,12 +163,12 @@ module _ (k : Core) (totals : Totals) (same : totals ≡ settled (k .tally .tota
           }
 
   -- a refused close, whichever way its end is told
-  refused-same : (q : Refusal) (memory : List ℕ) (t : Bool) → Same (flash._leaving_ (step.entered (flash.stopped q s)) memory)
+  refused-same : (q : Refusal) (memory : List ℕ) (t : Bool) → Same (flash._leaving_ (flash-commands.entered (flash.stopped q s)) memory)
       (machine._leaving_
       (pick t (record { refusal = q; reply = farewell (k .dialect); event = Nothing; core = machine.stop (machine.stop k); wrote = noneWrote })
       (machine.refused k q)) memory)
   refused-same q memory t =
-      of-choice (λ (x : Taken). Same (flash._leaving_ (step.entered (flash.stopped q s)) memory) (machine._leaving_ x memory)) t
+      of-choice (λ (x : Taken). Same (flash._leaving_ (flash-commands.entered (flash.stopped q s)) memory) (machine._leaving_ x memory)) t
       (λ e. record {
         refusal = refl;
         event = refl;
@@ -180,13 +184,14 @@ module _ (k : Core) (totals : Totals) (same : totals ≡ settled (k .tally .tota
 
   -- a close that was judged and done
   close-done-same : (wrote : Wrote) (done : Done) (n : ℕ) (memory : List ℕ)
-      → Same (flash._leaving_ (step.entered (step.after s h wrote done n)) memory) (machine._leaving_ (machine.entered (machine.after k left done)) memory)
-  unfolding step.after machine.after machine.entered pick
+      → Same (flash._leaving_ (flash-commands.entered (flash.after s h wrote done n)) memory)
+      (machine._leaving_ (machine.entered (machine.after k left done)) memory)
+  unfolding flash.after machine.after machine.entered pick
   close-done-same wrote done n memory = go (eqb (codeOf (done .refusal)) 0)
     where
       go : (t : Bool) → Same
           (flash._leaving_
-          (step.entered
+          (flash-commands.entered
           (pick t (flash.acceptedAs s h wrote (done .event) (flash.goTo s (done .checksum) n)) (flash.stopped (done .refusal) s)))
           memory)
           (machine._leaving_
@@ -313,13 +318,13 @@ module _ (k : Core) (offset size limit retries fetched : ℕ) (m image : List �
 
   -- Load, however its words were read
   load-read : {address size : ℕ} {judged : Judged} → address ≡ argument image offset 0 → size ≡ argument image offset 1
-      → judged ≡ step.overflowing session size (loadJudged (k .windows) address size)
+      → judged ≡ flash-commands.overflowing session size (loadJudged (k .windows) address size)
       → step.loadJudgedAs session m image (pastWords offset 2) address size judged ≡ step.performed command.Load (pastWords offset 2) session m image
   load-read p q j = rw (j, p, q)
 
   -- refused and granted
   load-refused-same : (a b : ℕ) → a ≡ argument image offset 0 → b ≡ argument image offset 1 → (q : Refusal)
-      → step.overflowing session (argument image offset 1) (loadJudged (k .windows) (argument image offset 0) (argument image offset 1)) ≡ Refused q
+      → flash-commands.overflowing session (argument image offset 1) (loadJudged (k .windows) (argument image offset 0) (argument image offset 1)) ≡ Refused q
       → Same (step.performed command.Load (pastWords offset 2) session m image) (doneWith opcode command.Load (begun command.Load k) m (a ∷ b ∷ []))
   unfolding doneAtLast
   load-refused-same a b p r q judged =
@@ -327,8 +332,8 @@ module _ (k : Core) (offset size limit retries fetched : ℕ) (m image : List �
       (subst
       (λ (j : Judged). Same (step.loadJudgedAs session m image (pastWords offset 2) (argument image offset 0) (argument image offset 1) j)
       (machine._leaving_
-      (machine.loadBegun (asking (begun command.Load k) command.Load 1 (machine.keeping noneKept (argument image offset 0))) (argument image offset 0)
-      (argument image offset 1) (machine.outOfNumbers (begun command.Load k) j)) m))
+      (loadBegun (asking (begun command.Load k) command.Load 1 (keeping noneKept (argument image offset 0))) (argument image offset 0)
+      (argument image offset 1) (outOfNumbers (begun command.Load k) j)) m))
       (sym judged)
       (record {
         refusal = refl;
@@ -339,16 +344,16 @@ module _ (k : Core) (offset size limit retries fetched : ℕ) (m image : List �
 
   -- no number for it
   load-spent-same : (a b : ℕ) → a ≡ argument image offset 0 → b ≡ argument image offset 1 → (place : ℕ)
-      → step.overflowing session b (loadJudged (k .windows) a b) ≡ Granted place → isSpent (settled (k .tally .totals)) ≡ true
+      → flash-commands.overflowing session b (loadJudged (k .windows) a b) ≡ Granted place → isSpent (settled (k .tally .totals)) ≡ true
       → pastWords offset 2 + 4 * dataWords b ≤ length image
       → Same (step.performed command.Load (pastWords offset 2) session m image) (doneWith opcode command.Load (begun command.Load k) m (a ∷ b ∷ []))
   unfolding doneAtLast
   load-spent-same a b p r place judged spent there =
-      let reached : Core = asking (begun command.Load k) command.Load 1 (machine.keeping noneKept a) in
+      let reached : Core = asking (begun command.Load k) command.Load 1 (keeping noneKept a) in
       let in-flash = sym (load-read p r (sym judged)) ∙ load-spent session m image (pastWords offset 2) a b place (are-present image _ _ there) spent in
-      let sent : machine.outOfNumbers reached (machine.overflowing reached b (loadJudged (k .windows) a b)) ≡ Refused Number =
-      ap (machine.outOfNumbers reached) judged ∙ bars _ _ place spent in
-      subst₂ Same (sym in-flash) (sym (ap (λ (j : Judged). machine._leaving_ (machine.loadBegun reached a b j) m) sent))
+      let sent : outOfNumbers reached (overflowing reached b (loadJudged (k .windows) a b)) ≡ Refused Number =
+      ap (outOfNumbers reached) judged ∙ bars _ _ place spent in
+      subst₂ Same (sym in-flash) (sym (ap (λ (j : Judged). machine._leaving_ (loadBegun reached a b j) m) sent))
       (record {
         refusal = refl;
         event = refl;
@@ -357,16 +362,16 @@ module _ (k : Core) (offset size limit retries fetched : ℕ) (m image : List �
       })
 
   load-granted-same : (a b : ℕ) → a ≡ argument image offset 0 → b ≡ argument image offset 1 → (place : ℕ)
-      → step.overflowing session b (loadJudged (k .windows) a b) ≡ Granted place → isSpent (settled (k .tally .totals)) ≡ false
+      → flash-commands.overflowing session b (loadJudged (k .windows) a b) ≡ Granted place → isSpent (settled (k .tally .totals)) ≡ false
       → ((i : ℕ) → getD image i 0 < 256) → pastWords offset 2 + 4 * dataWords b ≤ length image
       → Same (step.performed command.Load (pastWords offset 2) session m image)
       (afterWords (doneWith opcode command.Load (begun command.Load k) m (a ∷ b ∷ [])) (wordsAt image (pastWords offset 2) (dataWords b)))
   unfolding doneAtLast
   load-granted-same a b p r place judged unspent small there =
-      let reached : Core = asking (begun command.Load k) command.Load 1 (machine.keeping noneKept a) in
+      let reached : Core = asking (begun command.Load k) command.Load 1 (keeping noneKept a) in
       let words : List ℕ = wordsAt image (pastWords offset 2) (dataWords b) in
       let in-flash = sym (load-read p r (sym judged)) ∙ load-whole session m image (pastWords offset 2) a b place (are-present image _ _ there) unspent in
-      let sent = load-in-pieces reached m (machine.keeping noneKept a) b place words (unbarred _ _ _ unspent ∙ judged)
+      let sent = load-in-pieces reached m (keeping noneKept a) b place words (unbarred _ _ _ unspent ∙ judged)
       (words-length image (dataWords b) (pastWords offset 2)) in
       unwritten-same _
       (subst₂ Same (sym in-flash)
@@ -375,7 +380,7 @@ module _ (k : Core) (offset size limit retries fetched : ℕ) (m image : List �
       ∙ ap
       (λ (bytes : List ℕ). machine._leaving_
       (machine.quiet
-      (machine.await reached (machine.tallied (pick (k .on) (loadFed (k .tally .checksum) a bytes) (k .tally .checksum)) (machine.countedOn reached b)) Opcode))
+      (machine.await reached (machine.tallied (pick (k .on) (loadFed (k .tally .checksum) a bytes) (k .tally .checksum)) (countedOn reached b)) Opcode))
       (loaded m place bytes))
       (data-bytes image small b (pastWords offset 2) there)))
       (record {
@@ -397,12 +402,12 @@ record Quiet (s : Session) (a : Called) : Type 0 where
   on : a .session .on ≡ s .on
   checksum : a .session .checksum ≡ 0
 
-sought-quiet : (s : Session) (led : Sought) → Quiet s (step.soughtAs s led)
+sought-quiet : (s : Session) (led : Sought) → Quiet s (flash-commands.soughtAs s led)
 sought-quiet s (sought.To offset) = record { event = refl; on = refl; checksum = refl }
 sought-quiet s (sought.Refused q) = record { event = refl; on = refl; checksum = refl }
 
-requested-quiet : (s : Session) (next expected seek : ℕ) → Quiet s (step.requested s next expected seek)
-unfolding step.requested
+requested-quiet : (s : Session) (next expected seek : ℕ) → Quiet s (flash-commands.requested s next expected seek)
+unfolding flash-commands.requested
 requested-quiet s next expected seek =
     of-choice (Quiet s) _ (λ e. record { event = refl; on = refl; checksum = refl })
     (λ e. of-choice (Quiet s) _ (λ e. record { event = refl; on = refl; checksum = refl }) (λ e. sought-quiet s (soughtFrom (s .offset) seek)))
@@ -460,7 +465,7 @@ module _ (m image : List ℕ) (k : Core) (offset size limit retries fetched : �
       }
 
   request-like : RowsOf (k .dialect) word command.Request 2 0 → pastWords offset 2 ≤ length image → RequestByMode here m image k
-  unfolding wordsAt afterWords acknowledging pick argument step.requested
+  unfolding wordsAt afterWords acknowledging pick argument flash-commands.requested
   request-like rows there =
       let in-flash = called here m image k b command.Request 2 (rows .in-flash) there in
       let quiet = requested-quiet (flash.fetching 3 here) (pastWords offset 2) (argument image offset 0) (argument image offset 1) in

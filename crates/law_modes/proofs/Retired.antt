@@ -9,7 +9,7 @@ use Rattle.reading.proofs.Reading.{read-row}
 use Rattle.flash.specs.rules.Step.{followed}
 use Rattle.flash.proofs.Cases.{call-read}
 use Rattle.machine.specs.rules.Machine.{atOpcode, inPhase, wordStep}
-use Rattle.machine.specs.declared.Phase.{Phase}
+use Rattle.machine_answers.specs.declared.Phase.{Phase}
 use Rattle.law_modes.specs.claims.Retired.{JumpRefused}
 use Prim.Native.Nat.{ℕ}
 

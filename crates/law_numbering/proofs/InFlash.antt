@@ -43,14 +43,14 @@ use Rattle.commands.specs.declared.Sought.{Sought}
 use Rattle.commands.specs.declared.Sought.the-variants as sought
 use Rattle.commands.specs.declared.Wrote.{Wrote}
 use Rattle.commands.proofs.Judging.{Passes, barred-passes, load-passes, fill-passes, setting-passes, entry-passes}
-use Rattle.flash.specs.rules.Opening.{openedBy}
-use Rattle.flash.specs.claims.Reached.{Reached, opened, called}
-use Rattle.flash.specs.rules.Sessions.{CallOutcome, _leaving_, goTo, withTotals, fetching, stopped, acceptedAs}
-use Rattle.flash.specs.rules.Step.{after, overflowing, outOfNumbers, loadDone, loadAt, loadJudgedAs, loadOf, fillJudgedAs, fillOf, settingOf}
-use Rattle.flash.specs.rules.Step.{soughtAs, requested, entered, closed, performed, followed, stepOf}
-use Rattle.flash.specs.declared.Called.{Called}
-use Rattle.flash.specs.declared.Opened.{Opened}
-use Rattle.flash.specs.declared.Session.{Session}
+use Rattle.flash_session.specs.rules.Opening.{openedBy}
+use Rattle.flash_laws.specs.claims.Reached.{Reached, opened, called}
+use Rattle.flash_session.specs.rules.Sessions.{CallOutcome, _leaving_, goTo, withTotals, fetching, stopped, acceptedAs, after}
+use Rattle.flash_commands.specs.rules.Commands.{overflowing, outOfNumbers, fillJudgedAs, fillOf, settingOf, soughtAs, requested, entered, closed}
+use Rattle.flash.specs.rules.Step.{loadDone, loadAt, loadJudgedAs, loadOf, performed, followed, stepOf}
+use Rattle.flash_session.specs.declared.Called.{Called}
+use Rattle.flash_session.specs.declared.Opened.{Opened}
+use Rattle.flash_session.specs.declared.Session.{Session}
 use Rattle.law_numbering.specs.claims.InFlash.{plain, plainly, plainOutcome, takesFound, OutOfNumbers, InFlash}
 use Rattle.law_numbering.specs.claims.LeftOut.{unnumbered, byAny, takes}
 use Rattle.law_numbering.proofs.Common.{none-left, passes-alike, differs-alike, counted-alike, numbered-alike, bytes-alike, setting-alike, Other, other}

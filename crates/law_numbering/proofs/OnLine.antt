@@ -42,18 +42,21 @@ use Rattle.sent.specs.rules.Bus.{unitsInWord, startUnit, pushed}
 use Rattle.sent.specs.rules.Feeding.{State, totals, next, fed, answers}
 use Rattle.sent.specs.rules.Line as line
 use Rattle.sent.specs.rules.Line.{carried, isStart, unitStep}
-use Rattle.machine.specs.rules.Machine.{WordOutcome, tallied, changed, await, countedOn, quiet, writing, _leaving_, after, entered, noneKept, keeping, awaited}
-use Rattle.machine.specs.rules.Machine.{outOfNumbers, loadBegun, closeAddress, performed, toward, begun, acknowledging, opening, atOpcode, inPhase, wordStep}
+use Rattle.machine_answers.specs.rules.Answers.{WordOutcome, tallied, changed, await, quiet, writing, _leaving_, after, entered}
+use Rattle.machine_answers.specs.rules.Counts.{countedOn, outOfNumbers}
+use Rattle.machine_loads.specs.rules.Loads.{awaited, loadBegun}
+use Rattle.machine_commands.specs.rules.Performed.{noneKept, closeAddress, performed}
+use Rattle.machine.specs.rules.Machine.{keeping, toward, begun, acknowledging, opening, atOpcode, inPhase, wordStep}
 use Rattle.sent.specs.rules.Opening.{openedBy}
-use Rattle.machine.specs.rules.Replies.{silence}
+use Rattle.machine_answers.specs.rules.Replies.{silence}
 use Rattle.sent.specs.declared.Bus.{Bus}
-use Rattle.machine.specs.declared.Core.{Core}
-use Rattle.machine.specs.declared.Kept.{Kept}
+use Rattle.machine_answers.specs.declared.Core.{Core}
+use Rattle.machine_answers.specs.declared.Kept.{Kept}
 use Rattle.sent.specs.declared.Opened.{Opened}
-use Rattle.machine.specs.declared.Phase.{Phase}
-use Rattle.machine.specs.declared.Phase.the-variants as phase
+use Rattle.machine_answers.specs.declared.Phase.{Phase}
+use Rattle.machine_answers.specs.declared.Phase.the-variants as phase
 use Rattle.sent.specs.declared.Session.{Session}
-use Rattle.machine.specs.declared.Taken.{Taken}
+use Rattle.machine_answers.specs.declared.Taken.{Taken}
 use Rattle.law_numbering.specs.claims.LeftOut.{unnumbered, byAny, takes}
 use Rattle.law_numbering.specs.claims.OnLine.{plain, plainly, plainOutcome, plainSession, plainUnit, plainState, takesAt, takesIn, OutOfNumbers}
 use Rattle.law_numbering.specs.claims.OnLine.{NoneSpent, ButNumbers, opened, OnLine}

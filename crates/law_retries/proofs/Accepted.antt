@@ -18,12 +18,13 @@ use Rattle.commands.specs.declared.Judged.{Judged}
 use Rattle.commands.proofs.Judging.{granted-before, load-passes, fill-passes, setting-passes}
 use Rattle.sent.specs.rules.Bus.{allUnits}
 use Rattle.sent.specs.rules.Feeding.{NoneRefused}
-use Rattle.machine.specs.rules.Machine.{tallied, outOfNumbers, overflowing}
+use Rattle.machine_answers.specs.rules.Answers.{tallied}
+use Rattle.machine_answers.specs.rules.Counts.{outOfNumbers, overflowing}
 use Rattle.machine.specs.claims.Words.{doneAtLast}
 use Rattle.sent.specs.declared.Bus.{Bus}
-use Rattle.machine.specs.declared.Core.{Core}
-use Rattle.machine.specs.declared.Phase.the-variants.{Opcode}
-use Rattle.machine.specs.declared.Tally.{Tally}
+use Rattle.machine_answers.specs.declared.Core.{Core}
+use Rattle.machine_answers.specs.declared.Phase.the-variants.{Opcode}
+use Rattle.machine_answers.specs.declared.Tally.{Tally}
 use Rattle.machine.proofs.Granted.{GrantedAt, Numbered, numbers, last-numbered, section-numbered, section-counts, load-not-refused, done-not-refused}
 use Rattle.law_retries.specs.claims.Pieces.{Piece, load, fill, setting, wordsOf, Sendable, judgedOf, loadOpcode, fillOpcode, settingOpcode}
 use Rattle.law_retries.proofs.Taking.{writeOf, Room, running, awaiting, load-apart, fill-apart, setting-apart, load-row, fill-row, setting-row}

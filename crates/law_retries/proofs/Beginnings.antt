@@ -23,11 +23,12 @@ use Rattle.sent.specs.rules.Bus.{startUnit, unitsOf}
 use Rattle.sent.specs.rules.Feeding.{State, totals, next, heard, fed}
 use Rattle.words.specs.rules.Bytes.{AreBytes}
 use Rattle.sent.specs.rules.Line.{UnitOutcome, isStart}
-use Rattle.machine.specs.rules.Machine.{tallied, acknowledging}
+use Rattle.machine_answers.specs.rules.Answers.{tallied}
+use Rattle.machine.specs.rules.Machine.{acknowledging}
 use Rattle.sent.specs.rules.Line.{startAnswer}
 use Rattle.sent.specs.declared.Bus.{Bus}
-use Rattle.machine.specs.declared.Reply.{Reply}
-use Rattle.machine.specs.declared.Tally.{Tally}
+use Rattle.machine_answers.specs.declared.Reply.{Reply}
+use Rattle.machine_answers.specs.declared.Tally.{Tally}
 use Rattle.sent.proofs.Cases.{unit-start}
 use Rattle.law_retries.specs.claims.Pieces.{enableOpcode, requestOpcode, startOverOpcode}
 use Rattle.law_retries.specs.claims.Retries.{Awaits, Begins, Reached, Whole, Idle, AtStart, JustAfter, after-start, after-enable, after-request}

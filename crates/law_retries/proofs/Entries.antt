@@ -31,10 +31,11 @@ use Rattle.law_effects.proofs.Wrote.{fill-reports, shape-reports}
 use Rattle.bit_stamps.specs.rules.Stamps.{stamped}
 use Rattle.sent.specs.rules.Bus.{allUnits}
 use Rattle.sent.specs.rules.Feeding.{State, NoneRefused}
-use Rattle.machine.specs.rules.Machine.{tallied, acknowledging}
+use Rattle.machine_answers.specs.rules.Answers.{tallied}
+use Rattle.machine.specs.rules.Machine.{acknowledging}
 use Rattle.machine.specs.claims.Wrote.{tells, someTell}
 use Rattle.sent.specs.declared.Bus.{Bus}
-use Rattle.machine.specs.declared.Tally.{Tally}
+use Rattle.machine_answers.specs.declared.Tally.{Tally}
 use Rattle.sent.proofs.Feeding.{units-append, none-refused-words}
 use Rattle.machine.proofs.Laws.{data-count}
 use Rattle.law_retries.specs.claims.Pieces.{Piece, load, fill, setting, wordsOf, allWords, Sendable, AllSendable, judgedOf, effectAt, effectIf, effectOf}

@@ -23,7 +23,8 @@ use Rattle.bit_stamps.specs.rules.Stamps.{isTold, stampedFrom, entryAt}
 use Rattle.sent.specs.rules.Bus.{allUnits, pushed}
 use Rattle.sent.specs.rules.Feeding.{State, Heard, fed, answers}
 use Rattle.sent.specs.rules.Line.{carried, isStart, unitStep}
-use Rattle.machine.specs.rules.Machine.{after as afterCommand, acknowledging, wordStep}
+use Rattle.machine_answers.specs.rules.Answers.{after as afterCommand}
+use Rattle.machine.specs.rules.Machine.{acknowledging, wordStep}
 use Rattle.sent.specs.rules.Opening.{openedBy, numberingFrom}
 use Rattle.sent.specs.declared.Bus.the-variants.{Bytes}
 use Rattle.sent.proofs.Feeding.{none-refused-by}

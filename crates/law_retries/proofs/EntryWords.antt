@@ -39,17 +39,20 @@ use Rattle.sent.specs.rules.Feeding.{State, next, fed}
 use Rattle.sent.specs.claims.Lift.{atWord, Ready}
 use Rattle.sent.specs.rules.Line as line
 use Rattle.sent.specs.rules.Line.{carried, isStart}
-use Rattle.machine.specs.rules.Machine.{WordOutcome, tallied, await, withChecksum, _leaving_, noneKept, keeping, dataBytes, awaited, overflowing, outOfNumbers}
-use Rattle.machine.specs.rules.Machine.{loadBegun, after, performed, opening, wordStep}
-use Rattle.machine.specs.rules.Replies.{silence}
+use Rattle.machine_answers.specs.rules.Answers.{WordOutcome, tallied, await, withChecksum, _leaving_, after}
+use Rattle.machine_answers.specs.rules.Counts.{overflowing, outOfNumbers}
+use Rattle.machine_loads.specs.rules.Loads.{dataBytes, awaited, loadBegun}
+use Rattle.machine_commands.specs.rules.Performed.{noneKept, performed}
+use Rattle.machine.specs.rules.Machine.{keeping, opening, wordStep}
+use Rattle.machine_answers.specs.rules.Replies.{silence}
 use Rattle.machine.specs.claims.Words.{afterWords, asking, doneAtLast}
 use Rattle.sent.specs.declared.Bus.{Bus}
 use Rattle.sent.specs.declared.Bus.the-variants.{Bytes, Halves}
-use Rattle.machine.specs.declared.Core.{Core}
-use Rattle.machine.specs.declared.Kept.{Kept}
-use Rattle.machine.specs.declared.Phase.the-variants as phase
-use Rattle.machine.specs.declared.Reply.{Reply}
-use Rattle.machine.specs.declared.Tally.{Tally}
+use Rattle.machine_answers.specs.declared.Core.{Core}
+use Rattle.machine_answers.specs.declared.Kept.{Kept}
+use Rattle.machine_answers.specs.declared.Phase.the-variants as phase
+use Rattle.machine_answers.specs.declared.Reply.{Reply}
+use Rattle.machine_answers.specs.declared.Tally.{Tally}
 use Rattle.machine.proofs.ByTheTable.{by-the-table, word-kept, word-last, opcode-asks}
 use Rattle.sent.proofs.Cases.{unit-gathered, unit-whole}
 use Rattle.sent.proofs.Feeding.{fed-append, units-append}

@@ -28,9 +28,11 @@ use Rattle.sent.specs.rules.Bus.{startUnit, allUnits, pushed}
 use Rattle.sent.specs.rules.Feeding.{State, Heard, checksum, totals, heard, fed, answers, NoneRefused}
 use Rattle.words.specs.rules.Bytes.{AreBytes}
 use Rattle.sent.specs.rules.Line.{carried, isStart, unitStep}
-use Rattle.machine.specs.rules.Machine.{after as afterCommand, awaited, acknowledging, wordStep}
+use Rattle.machine_answers.specs.rules.Answers.{after as afterCommand}
+use Rattle.machine_loads.specs.rules.Loads.{awaited}
+use Rattle.machine.specs.rules.Machine.{acknowledging, wordStep}
 use Rattle.sent.specs.rules.Opening.{openedBy, numberingFrom}
-use Rattle.machine.specs.rules.Replies.{silence}
+use Rattle.machine_answers.specs.rules.Replies.{silence}
 use Rattle.sent.specs.rules.Line.{startAnswer}
 use Rattle.sent.specs.declared.Bus.{Bus}
 use Rattle.sent.specs.declared.Bus.the-variants.{Bytes, Halves}

@@ -21,12 +21,12 @@ use Rattle.sent.specs.rules.Opening.{openedBy, numberingFrom}
 use Rattle.sent.specs.rules.Line.{startAnswer}
 use Rattle.sent.specs.declared.Bus.{Bus}
 use Rattle.sent.specs.declared.Bus.the-variants.{Bytes, Halves}
-use Rattle.machine.specs.declared.Core.{Core}
+use Rattle.machine_answers.specs.declared.Core.{Core}
 use Rattle.sent.specs.declared.Line.{Line}
 use Rattle.sent.specs.declared.Opened.{Opened}
-use Rattle.machine.specs.declared.Phase.the-variants as phase
+use Rattle.machine_answers.specs.declared.Phase.the-variants as phase
 use Rattle.sent.specs.declared.Session.{Session}
-use Rattle.machine.specs.declared.Tally.{Tally}
+use Rattle.machine_answers.specs.declared.Tally.{Tally}
 use Rattle.machine.proofs.Every.{every-word}
 use Rattle.law_retries.specs.claims.Retries.{openedTo, Reached, opened, Sound}
 

@@ -25,12 +25,13 @@ use Rattle.ledger.proofs.Laws.{settled-asks-nothing, settled-once}
 use Rattle.sent.specs.rules.Bus.{unitsInWord, unitsOf, allUnits}
 use Rattle.sent.specs.rules.Feeding.{State, Heard, checksum, totals, fed, answers, NoneRefused}
 use Rattle.words.specs.rules.Bytes.{AreBytes}
-use Rattle.machine.specs.rules.Machine.{tallied, acknowledging}
-use Rattle.machine.specs.rules.Replies.{silence}
+use Rattle.machine_answers.specs.rules.Answers.{tallied}
+use Rattle.machine.specs.rules.Machine.{acknowledging}
+use Rattle.machine_answers.specs.rules.Replies.{silence}
 use Rattle.sent.specs.declared.Bus.{Bus}
 use Rattle.sent.specs.declared.Bus.the-variants.{Bytes, Halves}
-use Rattle.machine.specs.declared.Reply.{Reply}
-use Rattle.machine.specs.declared.Tally.{Tally}
+use Rattle.machine_answers.specs.declared.Reply.{Reply}
+use Rattle.machine_answers.specs.declared.Tally.{Tally}
 use Rattle.sent.proofs.Feeding.{answers-append, none-refused-words, units-append, fed-append, Goes, nothing-goes, _then_}
 use Rattle.law_retries.specs.claims.Pieces.{Piece, allWords, AllSendable, Covers, startOverOpcode}
 use Rattle.law_retries.specs.claims.Retries.{after, Begins, Attempt, askingOpcode, attemptWords, attemptsWords, attemptsPieces, Reports, NoTrace, Retried}

@@ -20,7 +20,7 @@ use Rattle.sent.specs.rules.Bus.{allUnits}
 use Rattle.sent.specs.rules.Feeding.{State, Heard, NoneRefused}
 use Rattle.words.specs.rules.Bytes.{AreBytes, wordsBytes}
 use Rattle.sent.specs.declared.Bus.{Bus}
-use Rattle.machine.specs.declared.Tally.{Tally}
+use Rattle.machine_answers.specs.declared.Tally.{Tally}
 use Rattle.sent.proofs.Feeding.{none-refused-words, Goes, nothing-goes, words-go}
 use Rattle.machine.proofs.Laws.{data-count}
 use Rattle.machine.proofs.Memory.{if-over, loaded-over, fill-over, setting-over, take-bytes, words-bytes}

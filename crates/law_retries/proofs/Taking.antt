@@ -39,21 +39,25 @@ use Rattle.commands.specs.declared.Wrote.{Wrote}
 use Rattle.sent.specs.rules.Bus.{unitsInWord, startUnit, unitsOf, allUnits, firstUnit}
 use Rattle.sent.specs.rules.Feeding.{State, Heard, NoneRefused}
 use Rattle.sent.specs.claims.Lift.{atWord, silent, Ready}
-use Rattle.machine.specs.rules.Machine.{WordOutcome, tallied, quiet, _leaving_, noneKept, keeping, dataBytes, awaited, overflowing, outOfNumbers, loadBegun}
-use Rattle.machine.specs.rules.Machine.{after, performed, begun, acknowledging, opening}
-use Rattle.machine.specs.rules.Replies.{silence, oneWord, wordThen, acknowledged}
+use Rattle.machine_answers.specs.rules.Answers.{WordOutcome, tallied, quiet, _leaving_, after}
+use Rattle.machine_answers.specs.rules.Counts.{overflowing, outOfNumbers}
+use Rattle.machine_loads.specs.rules.Loads.{dataBytes, awaited, loadBegun}
+use Rattle.machine_commands.specs.rules.Performed.{noneKept, performed}
+use Rattle.machine.specs.rules.Machine.{keeping, begun, acknowledging, opening}
+use Rattle.machine_answers.specs.rules.Replies.{silence, oneWord, wordThen, acknowledged}
 use Rattle.machine.specs.claims.Words.{afterWords, asking, doneAtLast}
 use Rattle.sent.specs.declared.Bus.{Bus}
 use Rattle.sent.specs.declared.Bus.the-variants.{Bytes, Halves}
-use Rattle.machine.specs.declared.Core.{Core}
-use Rattle.machine.specs.declared.Kept.{Kept}
-use Rattle.machine.specs.declared.Phase.{Phase}
-use Rattle.machine.specs.declared.Phase.the-variants as phase
-use Rattle.machine.specs.declared.Reply.{Reply}
-use Rattle.machine.specs.declared.Tally.{Tally}
+use Rattle.machine_answers.specs.declared.Core.{Core}
+use Rattle.machine_answers.specs.declared.Kept.{Kept}
+use Rattle.machine_answers.specs.declared.Phase.{Phase}
+use Rattle.machine_answers.specs.declared.Phase.the-variants as phase
+use Rattle.machine_answers.specs.declared.Reply.{Reply}
+use Rattle.machine_answers.specs.declared.Tally.{Tally}
 use Rattle.machine.proofs.ByTheTable.{by-the-table, word-kept, word-last, opcode-asks}
 use Rattle.sent.proofs.Feeding.{none-refused-append, Goes, nothing-goes, _then_, reaching, words-go}
-use Rattle.machine.proofs.Laws.{unwritten, same-words, data-length, data-step, load-in-pieces}
+use Rattle.machine_loads.proofs.Laws.{data-length}
+use Rattle.machine.proofs.Laws.{unwritten, same-words, data-step, load-in-pieces}
 use Rattle.sent.proofs.Lift.{accepted-goes, word-accepted}
 use Rattle.law_retries.specs.claims.Pieces.{Piece, load, fill, setting, wordsOf, bytesLoaded, AreWords, Sendable, judgedOf, loadOpcode, fillOpcode}
 use Rattle.law_retries.specs.claims.Pieces.{settingOpcode, enableOpcode, requestOpcode, startOverOpcode}

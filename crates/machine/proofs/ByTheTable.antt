@@ -13,14 +13,15 @@ use Rattle.opcodes.specs.declared.Command.{Command}
 use Rattle.opcodes.specs.declared.Found.{Found}
 use Rattle.opcodes.specs.declared.Found.the-variants.{Known}
 use Rattle.opcodes.specs.declared.Mode.the-variants.{Sent}
-use Rattle.machine.specs.rules.Machine.{WordOutcome, said, quiet, _leaving_, noneKept, keeping, performed, toward, begun, acknowledging, opening}
-use Rattle.machine.specs.rules.Machine.{atOpcode, inPhase, wordStep}
-use Rattle.machine.specs.rules.Replies.{oneWord, wordThen, acknowledged}
+use Rattle.machine_answers.specs.rules.Answers.{WordOutcome, said, quiet, _leaving_}
+use Rattle.machine_commands.specs.rules.Performed.{noneKept, performed}
+use Rattle.machine.specs.rules.Machine.{keeping, toward, begun, acknowledging, opening, atOpcode, inPhase, wordStep}
+use Rattle.machine_answers.specs.rules.Replies.{oneWord, wordThen, acknowledged}
 use Rattle.machine.specs.claims.Words.{afterWords, keptAfter, asking, doneAtLast, doneWith, ByTheTable}
-use Rattle.machine.specs.declared.Core.{Core}
-use Rattle.machine.specs.declared.Kept.{Kept}
-use Rattle.machine.specs.declared.Phase.{Phase}
-use Rattle.machine.specs.declared.Phase.the-variants.{Opcode}
+use Rattle.machine_answers.specs.declared.Core.{Core}
+use Rattle.machine_answers.specs.declared.Kept.{Kept}
+use Rattle.machine_answers.specs.declared.Phase.{Phase}
+use Rattle.machine_answers.specs.declared.Phase.the-variants.{Opcode}
 
 -- a word with others to come, and the last
 module _ (command : Command) (k : Core) (m : List ℕ) (kept : Kept) (word : ℕ) where

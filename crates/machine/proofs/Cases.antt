@@ -1,28 +1,18 @@
--- A word taken for its purpose is the word in its phase, and a granted load lies inside the lent memory.
-use Prim.Native.Nat.{ℕ, _+_, _≤_}
+-- A word taken for its purpose is the word in its phase.
+use Prim.Native.Nat.{ℕ}
 use mathlib.Core.List.{List}
 use mathlib.Core.Path.{_≡_, refl, sym, ap, _∙_}
 use Rattle.words.specs.rules.Choice.{pick}
-use Rattle.windows.specs.rules.Window.{placeOf, sumOf}
-use Rattle.windows.specs.declared.Place.{Place}
-use Rattle.windows.specs.declared.Place.the-variants.{At, Nowhere}
-use Rattle.windows.specs.declared.Right.the-variants.{Load}
-use Rattle.windows.specs.declared.Window.{Window}
-use Rattle.windows.proofs.Laws.{placed-inside}
-use Rattle.commands.specs.rules.Commands.{placed, rangeJudged, loadJudged}
-use Rattle.commands.specs.declared.Judged.the-variants.{Granted}
-use native.Mathlib.Omega.{arith}
 use Rattle.opcodes.specs.rules.Opcodes.{lookedUp}
 use Rattle.opcodes.specs.declared.Found.{Found}
 use Rattle.opcodes.specs.declared.Found.the-variants.{Known, Retired, Unknown}
 use Rattle.opcodes.specs.declared.Mode.the-variants.{Sent}
-use Rattle.opcodes.specs.declared.Refusal.the-variants as refusal
-use Rattle.machine.specs.rules.Machine as machine
+use Rattle.machine_answers.specs.rules.Answers as machine
 use Rattle.machine.specs.rules.Machine.{atOpcode, inPhase, wordStep}
 use Rattle.machine.specs.rules.Purpose.{opcodePurpose, purposeOf, served}
-use Rattle.machine.specs.declared.Core.{Core}
-use Rattle.machine.specs.declared.Phase.{Phase}
-use Rattle.machine.specs.declared.Phase.the-variants as phase
+use Rattle.machine_answers.specs.declared.Core.{Core}
+use Rattle.machine_answers.specs.declared.Phase.{Phase}
+use Rattle.machine_answers.specs.declared.Phase.the-variants as phase
 use Rattle.machine.specs.declared.Purpose.{Purpose}
 
 -- a word taken for its purpose is the word in its phase
@@ -49,15 +39,3 @@ module _ (k : Core) (m : List ℕ) (word : ℕ) {p : Purpose} (known : purposeOf
 
   pub served-memory : served p k m word .memory ≡ wordStep k m word .memory
   served-memory = ap (λ (o : machine.WordOutcome). o .memory) served-word
-
--- a load that is granted lies inside the lent memory
-pub granted-inside : (windows : List Window) (address size place : ℕ) → loadJudged windows address size ≡ Granted place
-    → place + size ≤ sumOf windows
-unfolding loadJudged rangeJudged
-granted-inside windows address size place granted = go (placeOf windows Load address size) refl granted
-  where
-    go : (found : Place) → placeOf windows Load address size ≡ found → placed refusal.Range found ≡ Granted place → place + size ≤ sumOf windows
-    go (At q) e g =
-        let same : q ≡ place = cc in
-        placed-inside windows Load address size place (e ∙ ap At same)
-    go Nowhere e g = let z : _≡_ {A = ℕ} 0 1 = cc in omega arith

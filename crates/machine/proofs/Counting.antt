@@ -38,16 +38,18 @@ use Rattle.commands.specs.declared.Judged.the-variants.{Granted, Refused}
 use Rattle.commands.specs.declared.Wrote.{Wrote}
 use Rattle.commands.proofs.Judging.{granted-before, load-passes, fill-passes}
 use Rattle.machine.specs.claims.Counting.{WordsCount, sizeOf, keptBefore, sizesAt, NoRetry, sizesOf, Entering}
-use Rattle.machine.specs.rules.Machine.{WordOutcome, tallied, quiet, writing, _leaving_, noneKept, countedOn, after, entered, outOfNumbers, overflowing}
-use Rattle.machine.specs.rules.Machine.{loadBegun, closeAddress, closeJudged, performed, toward, begun, acknowledging, opening, atOpcode, inPhase}
-use Rattle.machine.specs.rules.Machine.{wordStep}
-use Rattle.machine.specs.rules.Replies.{oneWord, farewell}
+use Rattle.machine_answers.specs.rules.Answers.{WordOutcome, tallied, quiet, writing, _leaving_, after, entered}
+use Rattle.machine_answers.specs.rules.Counts.{countedOn, outOfNumbers, overflowing}
+use Rattle.machine_loads.specs.rules.Loads.{loadBegun}
+use Rattle.machine_commands.specs.rules.Performed.{noneKept, closeAddress, closeJudged, performed}
+use Rattle.machine.specs.rules.Machine.{toward, begun, acknowledging, opening, atOpcode, inPhase, wordStep}
+use Rattle.machine_answers.specs.rules.Replies.{oneWord, farewell}
 use Rattle.machine.specs.claims.Words.{afterWords}
-use Rattle.machine.specs.declared.Core.{Core}
-use Rattle.machine.specs.declared.Kept.{Kept}
-use Rattle.machine.specs.declared.Phase.{Phase}
-use Rattle.machine.specs.declared.Phase.the-variants as phase
-use Rattle.machine.specs.declared.Taken.{Taken}
+use Rattle.machine_answers.specs.declared.Core.{Core}
+use Rattle.machine_answers.specs.declared.Kept.{Kept}
+use Rattle.machine_answers.specs.declared.Phase.{Phase}
+use Rattle.machine_answers.specs.declared.Phase.the-variants as phase
+use Rattle.machine_answers.specs.declared.Taken.{Taken}
 use Rattle.machine.proofs.Every.{every-word}
 use Rattle.machine.proofs.Granted.{GrantedAt, numbers, section-numbered, section-counts, load-not-refused, done-not-refused}
 

@@ -27,16 +27,19 @@ use Rattle.commands.specs.declared.Judged.{Judged}
 use Rattle.commands.specs.declared.Judged.the-variants.{Granted, Refused}
 use Rattle.commands.specs.declared.Wrote.{Wrote}
 use Rattle.machine.specs.claims.Every.{EveryWord}
-use Rattle.machine.specs.rules.Machine.{WordOutcome, changed, stop, refused, writing, _leaving_, noneKept, outOfNumbers, overflowing, loadBegun, after}
-use Rattle.machine.specs.rules.Machine.{entered, performed, toward, begun, acknowledging, opening, atOpcode, inPhase, wordStep}
-use Rattle.machine.specs.rules.Replies.{silence, oneWord, wordThen, acknowledged, doneWord, farewell}
-use Rattle.machine.specs.declared.Core.{Core}
-use Rattle.machine.specs.declared.Kept.{Kept}
-use Rattle.machine.specs.declared.Phase.{Phase}
-use Rattle.machine.specs.declared.Phase.the-variants as phase
-use Rattle.machine.specs.declared.Reply.{Reply}
-use Rattle.machine.specs.declared.Taken.{Taken}
-use Rattle.machine.specs.declared.Tally.{Tally}
+use Rattle.machine_answers.specs.rules.Answers.{WordOutcome, changed, stop, refused, writing, _leaving_, after, entered}
+use Rattle.machine_answers.specs.rules.Counts.{outOfNumbers, overflowing}
+use Rattle.machine_loads.specs.rules.Loads.{loadBegun}
+use Rattle.machine_commands.specs.rules.Performed.{noneKept, performed}
+use Rattle.machine.specs.rules.Machine.{toward, begun, acknowledging, opening, atOpcode, inPhase, wordStep}
+use Rattle.machine_answers.specs.rules.Replies.{silence, oneWord, wordThen, acknowledged, doneWord, farewell}
+use Rattle.machine_answers.specs.declared.Core.{Core}
+use Rattle.machine_answers.specs.declared.Kept.{Kept}
+use Rattle.machine_answers.specs.declared.Phase.{Phase}
+use Rattle.machine_answers.specs.declared.Phase.the-variants as phase
+use Rattle.machine_answers.specs.declared.Reply.{Reply}
+use Rattle.machine_answers.specs.declared.Taken.{Taken}
+use Rattle.machine_answers.specs.declared.Tally.{Tally}
 use Rattle.machine.proofs.Memory.{Overwritten, untouched, fill-over, setting-over, data-over}
 
 -- a reply of none, one or two words

@@ -16,9 +16,11 @@ use Rattle.commands.specs.rules.Commands.{doneIf, barred}
 use Rattle.commands.specs.declared.Judged.{Judged}
 use Rattle.commands.specs.declared.Judged.the-variants.{Granted, Refused}
 use Rattle.commands.proofs.Judging.{EachRefusal, Passes, barred-passes, granted-before}
-use Rattle.machine.specs.rules.Machine.{after, outOfNumbers, overflowing, loadBegun}
-use Rattle.machine.specs.declared.Core.{Core}
-use Rattle.machine.specs.declared.Taken.{Taken}
+use Rattle.machine_answers.specs.rules.Answers.{after}
+use Rattle.machine_answers.specs.rules.Counts.{outOfNumbers, overflowing}
+use Rattle.machine_loads.specs.rules.Loads.{loadBegun}
+use Rattle.machine_answers.specs.declared.Core.{Core}
+use Rattle.machine_answers.specs.declared.Taken.{Taken}
 
 -- a command has a place
 pub record GrantedAt (judged : Judged) : Type 0 where

@@ -7,8 +7,8 @@ use mathlib.Core.Path.{_≡_, refl, sym, ap, ap₂, _∙_}
 use native.Mathlib.Nat.{add-sub-cancel}
 use native.Mathlib.Omega.{arith}
 use borrow.Author.Tests.{eq-eqb, ne-eqb}
-use lib.ListN.{length, getD, take, drop, length-take, take-append-drop}
-use lib.Seq.{length-take-le, take-nil, getD-take}
+use lib.ListN.{length, take, drop, take-append-drop}
+use lib.Seq.{length-take-le, take-nil}
 use Rattle.words.specs.rules.Bits.{bit}
 use Rattle.words.specs.rules.Bytes.{wordsBytes, byte, number, put}
 use Rattle.words.specs.rules.Choice.{pick}
@@ -23,14 +23,18 @@ use Rattle.commands.specs.rules.Wrote.{noneWrote, bytesWrote}
 use Rattle.commands.specs.declared.Judged.{Judged}
 use Rattle.commands.specs.declared.Judged.the-variants.{Granted}
 use Rattle.commands.specs.declared.Wrote.{Wrote}
-use Rattle.machine.specs.rules.Machine.{WordOutcome, tallied, await, withChecksum, countedOn, quiet, writing, _leaving_, awaited, overflowing}
-use Rattle.machine.specs.rules.Machine.{outOfNumbers, loadBegun, dataBytes, performed, inPhase, wordStep}
+use Rattle.machine_loads.proofs.Laws.{data-byte, data-length}
+use Rattle.machine_answers.specs.rules.Answers.{WordOutcome, tallied, await, withChecksum, quiet, writing, _leaving_}
+use Rattle.machine_answers.specs.rules.Counts.{countedOn, overflowing, outOfNumbers}
+use Rattle.machine_loads.specs.rules.Loads.{awaited, loadBegun, dataBytes}
+use Rattle.machine_commands.specs.rules.Performed.{performed}
+use Rattle.machine.specs.rules.Machine.{inPhase, wordStep}
 use Rattle.machine.specs.claims.Words.{afterWords}
-use Rattle.machine.specs.declared.Core.{Core}
-use Rattle.machine.specs.declared.Kept.{Kept}
-use Rattle.machine.specs.declared.Phase.{Phase}
-use Rattle.machine.specs.declared.Phase.the-variants as phase
-use Rattle.machine.specs.declared.Taken.{Taken}
+use Rattle.machine_answers.specs.declared.Core.{Core}
+use Rattle.machine_answers.specs.declared.Kept.{Kept}
+use Rattle.machine_answers.specs.declared.Phase.{Phase}
+use Rattle.machine_answers.specs.declared.Phase.the-variants as phase
+use Rattle.machine_answers.specs.declared.Taken.{Taken}
 
 -- the first four of n bytes of words are those of the first word that belong to the load, and the others those of the other words
 first-bytes : (n w : ℕ) (ws : List ℕ) → take 4 (take n (wordsBytes (w ∷ ws))) ≡ dataBytes w n
@@ -49,21 +53,6 @@ other-bytes (suc (suc (suc (suc n)))) w ws = let e : suc (suc (suc (suc n))) - 4
 
 all-bytes : (n w : ℕ) (ws : List ℕ) → dataBytes w n ++ take (n - 4) (wordsBytes ws) ≡ take n (wordsBytes (w ∷ ws))
 all-bytes n w ws = ap₂ _++_ (sym (first-bytes n w ws)) (sym (other-bytes n w ws)) ∙ take-append-drop 4 _
-
--- the bytes of a word, by their place
-four-bytes : (word i : ℕ) → i < 4 → getD (byte word 0 ∷ byte word 1 ∷ byte word 2 ∷ byte word 3 ∷ []) i 0 ≡ byte word i
-four-bytes word zero h = refl
-four-bytes word (suc zero) h = refl
-four-bytes word (suc (suc zero)) h = refl
-four-bytes word (suc (suc (suc zero))) h = refl
-four-bytes word (suc (suc (suc (suc i)))) h = omega arith
-
--- those of them that belong to the load
-pub data-byte : (word left i : ℕ) → i < min left 4 → getD (dataBytes word left) i 0 ≡ byte word i
-data-byte word left i h = getD-take left _ i 0 (omega arith) ∙ four-bytes word i (omega arith)
-
-pub data-length : (word left : ℕ) → length (dataBytes word left) ≡ min left 4
-data-length word left = length-take left _
 
 -- numbers with the same low bits feed the same
 fed-same : (r v u n : ℕ) → ((i : ℕ) → i < n → bit v i ≡ bit u i) → fed r v n ≡ fed r u n

@@ -17,7 +17,7 @@ use Rattle.commands.specs.declared.Shape.the-variants.{Bits, Wrong}
 use Rattle.commands.specs.declared.UnitType.{UnitType}
 use Rattle.commands.specs.declared.UnitType.the-variants.{Of, Other}
 use Rattle.words.specs.rules.Bytes.{wordsBytes, AreBytes}
-use Rattle.machine.specs.rules.Machine.{dataBytes}
+use Rattle.machine_loads.specs.rules.Loads.{dataBytes}
 
 -- bytes stay bytes
 set-bytes : (m : List ℕ) (at v : ℕ) → v < 256 → AreBytes m → AreBytes (set m at v)

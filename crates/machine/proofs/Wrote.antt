@@ -41,17 +41,19 @@ use Rattle.commands.specs.declared.Shape.{Shape}
 use Rattle.commands.specs.declared.Shape.the-variants.{Bits, Wrong}
 use Rattle.commands.specs.declared.Wrote.{Wrote}
 use Rattle.commands.proofs.Judging.{granted-before}
-use Rattle.machine.specs.rules.Machine.{WordOutcome, await, withChecksum, countedOn, stop, refused, writing, _leaving_, after, entered, noneKept, awaited}
-use Rattle.machine.specs.rules.Machine.{outOfNumbers, overflowing, loadBegun, dataBytes, echoing, performed, toward, begun, acknowledging, opening}
-use Rattle.machine.specs.rules.Machine.{atOpcode, inPhase, wordStep}
-use Rattle.machine.specs.rules.Replies.{farewell}
+use Rattle.machine_answers.specs.rules.Answers.{WordOutcome, await, withChecksum, stop, refused, writing, _leaving_, after, entered}
+use Rattle.machine_answers.specs.rules.Counts.{countedOn, outOfNumbers, overflowing}
+use Rattle.machine_loads.specs.rules.Loads.{awaited, loadBegun, dataBytes}
+use Rattle.machine_commands.specs.rules.Performed.{noneKept, echoing, performed}
+use Rattle.machine.specs.rules.Machine.{toward, begun, acknowledging, opening, atOpcode, inPhase, wordStep}
+use Rattle.machine_answers.specs.rules.Replies.{farewell}
 use Rattle.machine.specs.claims.Wrote.{tells, someTell, AllBy, toldBy, PiecesTellTheLoad, TookOne, KeepsNumbers, ByLast, WordTells, TellsByNumber}
-use Rattle.machine.specs.declared.Core.{Core}
-use Rattle.machine.specs.declared.Kept.{Kept}
-use Rattle.machine.specs.declared.Phase.{Phase}
-use Rattle.machine.specs.declared.Phase.the-variants as phase
-use Rattle.machine.specs.declared.Reply.{Reply}
-use Rattle.machine.specs.declared.Taken.{Taken}
+use Rattle.machine_answers.specs.declared.Core.{Core}
+use Rattle.machine_answers.specs.declared.Kept.{Kept}
+use Rattle.machine_answers.specs.declared.Phase.{Phase}
+use Rattle.machine_answers.specs.declared.Phase.the-variants as phase
+use Rattle.machine_answers.specs.declared.Reply.{Reply}
+use Rattle.machine_answers.specs.declared.Taken.{Taken}
 use Rattle.machine.proofs.Granted.{section-counts}
 use Rattle.machine.proofs.Laws.{data-step}
 

@@ -2,7 +2,7 @@
 ghost use Rattle.sent.specs.rules.Line.{unitStep};
 ghost use Rattle.sent.specs.declared.Bus.the-variants.{Bytes};
 ghost use Rattle.port.specs.rules.Port.{isGiven};
-use machine::Reply;
+use machine_answers::Reply;
 use opcodes::Event;
 use opcodes::Refusal;
 use sent::Session;

@@ -11,9 +11,10 @@ use Rattle.windows.specs.rules.Window.{sumOf}
 use Rattle.opcodes.specs.declared.Refusal.the-variants as refusal
 use Rattle.sent.specs.rules.Bus.{unitsInWord, startUnit, pushed}
 use Rattle.sent.specs.rules.Line.{plainly, gathered, carried, isStart, unitStep}
-use Rattle.machine.specs.rules.Machine as machine
-use Rattle.machine.specs.rules.Machine.{_leaving_, wordStep}
-use Rattle.machine.specs.rules.Replies.{silence}
+use Rattle.machine_answers.specs.rules.Answers as machine
+use Rattle.machine_answers.specs.rules.Answers.{_leaving_}
+use Rattle.machine.specs.rules.Machine.{wordStep}
+use Rattle.machine_answers.specs.rules.Replies.{silence}
 use Rattle.sent.specs.rules.Line.{startAnswer}
 use Rattle.sent.specs.declared.Bus.{Bus}
 use Rattle.sent.specs.declared.Session.{Session}

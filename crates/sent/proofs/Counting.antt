@@ -23,12 +23,13 @@ use Rattle.sent.specs.claims.Counting.{UnitsCount, withTotals, ButTotals
 use Rattle.sent.specs.rules.Feeding.{State, totals, next, fed, answers}
 use Rattle.sent.specs.rules.Line as line
 use Rattle.sent.specs.rules.Line.{plainly, gathered, carried, isStart, unitStep}
-use Rattle.machine.specs.rules.Machine.{WordOutcome, begun, wordStep}
+use Rattle.machine_answers.specs.rules.Answers.{WordOutcome}
+use Rattle.machine.specs.rules.Machine.{begun, wordStep}
 use Rattle.sent.specs.declared.Bus.{Bus}
-use Rattle.machine.specs.declared.Core.{Core}
+use Rattle.machine_answers.specs.declared.Core.{Core}
 use Rattle.sent.specs.declared.Line.{Line}
-use Rattle.machine.specs.declared.Phase.the-variants as phase
-use Rattle.machine.specs.declared.Reply.{Reply}
+use Rattle.machine_answers.specs.declared.Phase.the-variants as phase
+use Rattle.machine_answers.specs.declared.Reply.{Reply}
 use Rattle.sent.specs.declared.Session.{Session}
 use Rattle.machine.proofs.Every.{every-word}
 use Rattle.machine.proofs.Counting.{having, bare, phase-zero, word-alike}

@@ -15,7 +15,7 @@ use Rattle.sent.specs.claims.Lift.{atWord}
 use Rattle.sent.specs.rules.Line.{isStart}
 use Rattle.sent.specs.declared.Bus.{Bus}
 use Rattle.sent.specs.declared.Bus.the-variants.{Bytes, Halves}
-use Rattle.machine.specs.declared.Core.{Core}
+use Rattle.machine_answers.specs.declared.Core.{Core}
 use Rattle.sent.proofs.Cases.{start-other}
 
 -- a session with some units of a word gathered, and its memory

@@ -19,17 +19,17 @@ use Rattle.sent.specs.rules.Bus.{unitBits, unitsInWord, unitsOf, allUnit
 use Rattle.sent.specs.rules.Feeding.{State, Heard, next, fed, answers, replied, NoneRefused}
 use Rattle.sent.specs.claims.Lift.{atWord, silent, refusedBy, heardWord, Plain, Ready, UnitsAreTheWord, Absorbed, Words, EitherLine, Lines}
 use Rattle.sent.specs.rules.Line.{UnitOutcome, carried, isStart, unitStep}
-use Rattle.machine.specs.rules.Machine as machine
+use Rattle.machine_answers.specs.rules.Answers as machine
 use Rattle.machine.specs.rules.Machine.{wordStep}
 use Rattle.sent.specs.rules.Opening.{openedBy}
 use Rattle.sent.specs.rules.Line.{startAnswer}
-use Rattle.machine.specs.rules.Replies.{sentBytes}
+use Rattle.machine_answers.specs.rules.Replies.{sentBytes}
 use Rattle.sent.specs.declared.Bus.{Bus}
 use Rattle.sent.specs.declared.Bus.the-variants.{Bytes, Halves}
-use Rattle.machine.specs.declared.Core.{Core}
+use Rattle.machine_answers.specs.declared.Core.{Core}
 use Rattle.sent.specs.declared.Line.{Line}
 use Rattle.sent.specs.declared.Opened.{Opened}
-use Rattle.machine.specs.declared.Taken.{Taken}
+use Rattle.machine_answers.specs.declared.Taken.{Taken}
 use Rattle.sent.proofs.Cases.{unit-ended, unit-gathered, unit-whole}
 use Rattle.machine.proofs.Every.{every-word}
 use Rattle.sent.proofs.Feeding.{fed-append, answers-append, Goes, _then_, unit-goes}

@@ -12,18 +12,19 @@ ghost use Rattle.opcodes.specs.rules.Answers.{accepted, codeOf};
 ghost use Rattle.ledger.specs.declared.Totals.{Totals};
 ghost use Rattle.sent.specs.rules.Bus.{unitBits, unitsInWord, startUnit, halvesOf, unitsFed, pushed};
 ghost use Rattle.sent.specs.rules.Line.{plainly, gathered, carried, isStart, unitStep};
-ghost use Rattle.machine.specs.rules.Machine.{_leaving_, begun};
+ghost use Rattle.machine_answers.specs.rules.Answers.{_leaving_};
+ghost use Rattle.machine.specs.rules.Machine.{begun};
 ghost use Rattle.sent.specs.rules.Opening.{greeting, atStart, openedBy, fromOneOn, numberingFrom};
-ghost use Rattle.machine.specs.rules.Replies.{silence};
+ghost use Rattle.machine_answers.specs.rules.Replies.{silence};
 ghost use Rattle.sent.specs.rules.Line.{startAnswer};
 use commands::Wrote;
 use ledger::Totals;
-use machine::Core;
-use machine::Phase;
-use machine::Reply;
-use machine::Stage;
-use machine::Taken;
-use machine::Tally;
+use machine_answers::Core;
+use machine_answers::Phase;
+use machine_answers::Reply;
+use machine_answers::Stage;
+use machine_answers::Taken;
+use machine_answers::Tally;
 use opcodes::Dialect;
 use opcodes::Event;
 use opcodes::Refusal;
@@ -226,11 +227,11 @@ fn hear(session: Session, memory: &mut [u8], bus: Bus, unit: u32) -> Answer
 {
     let core = session.core;
     if core.ended {
-        return tell(Refusal::Ended, machine::silent(), session);
+        return tell(Refusal::Ended, machine_answers::silent(), session);
     }
     let windows = core.windows;
     if memory.len() != windows::sum(windows) {
-        return tell(Refusal::Memory, machine::silent(), session);
+        return tell(Refusal::Memory, machine_answers::silent(), session);
     }
     let line = session.line;
     if is_start(bus, session, unit) {
@@ -238,12 +239,12 @@ fn hear(session: Session, memory: &mut [u8], bus: Bus, unit: u32) -> Answer
         return tell(Refusal::None, start_reply(bus), started);
     }
     if !line.started {
-        return tell(Refusal::None, machine::silent(), session);
+        return tell(Refusal::None, machine_answers::silent(), session);
     }
     let word = push(bus, line.word, unit);
     if line.have < last_unit(bus) {
         let gathered = gather(session, true, line.have + 1, word);
-        return tell(Refusal::None, machine::silent(), gathered);
+        return tell(Refusal::None, machine_answers::silent(), gathered);
     }
     carry(session, machine::take_word(core, memory, word))
 }
@@ -289,7 +290,7 @@ fn shut() -> Opened
     };
     Opened {
         refusal: Refusal::Map,
-        reply: machine::silent(),
+        reply: machine_answers::silent(),
         session: begin(Dialect::Am17xx, [none; 8], true),
     }
 }
@@ -300,7 +301,7 @@ fn greet(bus: Bus) -> Reply
 {
     match bus {
         Bus::Bytes => bootme(),
-        Bus::Halves => machine::silent(),
+        Bus::Halves => machine_answers::silent(),
     }
 }
 

@@ -3,7 +3,7 @@ use Prim.Native.Nat.{ℕ, _+_, _*_, _^_}
 use mathlib.Core.List.{List}
 use Rattle.opcodes.specs.rules.Answers.{codeOf}
 use Rattle.opcodes.specs.declared.Dialect.{Dialect}
-use Rattle.flash.specs.declared.Called.{Called}
+use Rattle.flash_session.specs.declared.Called.{Called}
 use Rattle.bench.specs.rules.Runs.{flashRun}
 
 -- an answer in one number: refusal, words fetched since the opening

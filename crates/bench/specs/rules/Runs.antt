@@ -3,9 +3,9 @@ use Prim.Native.Nat.{ℕ, _+_, _*_, _/_, _^_}
 use mathlib.Core.List.{List}
 use Rattle.opcodes.specs.rules.Answers.{codeOf}
 use Rattle.opcodes.specs.declared.Dialect.{Dialect}
-use Rattle.flash.specs.rules.Opening.{openedBy}
-use Rattle.flash.specs.rules.Sessions.{CallOutcome}
-use Rattle.flash.specs.declared.Called.{Called}
+use Rattle.flash_session.specs.rules.Opening.{openedBy}
+use Rattle.flash_session.specs.rules.Sessions.{CallOutcome}
+use Rattle.flash_session.specs.declared.Called.{Called}
 use Rattle.flash_runs.specs.rules.Run.{ranFrom}
 use Rattle.bench_sessions.specs.rules.Map.{windowsOf, countOf}
 

@@ -6,7 +6,7 @@ use mathlib.Core.Path.{_≡_, refl, sym, _∙_}
 use native.Mathlib.Omega.{arith}
 use lib.Dec.{lit≤}
 use lib.ListN.{length, take, drop, getD}
-use Rattle.machine.specs.rules.Replies.{sentBytes}
+use Rattle.machine_answers.specs.rules.Replies.{sentBytes}
 use Rattle.sent.specs.rules.Bus.{unitsFed}
 use Rattle.bench_sessions.specs.rules.Feeding.{openingRoom, unitRoom}
 use Rattle.bench_sessions.proofs.Fitting.{one-more, nothing-held, step-pays, room-left, room-small}

@@ -13,11 +13,11 @@ use Rattle.opcodes.specs.declared.Refusal.the-variants as refusal
 use Rattle.sent.specs.rules.Bus.{unitBits, unitsFed}
 use Rattle.sent.specs.rules.Feeding.{State, fed, answers, replied, firstRefused}
 use Rattle.sent.specs.rules.Opening.{openedBy}
-use Rattle.machine.specs.rules.Replies.{sentBytes}
+use Rattle.machine_answers.specs.rules.Replies.{sentBytes}
 use Rattle.sent.specs.declared.Bus.{Bus}
 use Rattle.sent.specs.declared.Bus.the-variants.{Bytes, Halves}
 use Rattle.sent.specs.declared.Opened.{Opened}
-use Rattle.machine.specs.declared.Reply.{Reply}
+use Rattle.machine_answers.specs.declared.Reply.{Reply}
 use Rattle.bench_sessions.specs.rules.Map.{windowsOf, countOf}
 
 -- what a session comes to: the number that C gets, the memory and the room that are left

@@ -15,7 +15,7 @@ use Rattle.opcodes.specs.declared.Refusal.the-variants as refusal
 use Rattle.sent.specs.rules.Bus.{unitsFed}
 use Rattle.sent.specs.rules.Feeding.{State}
 use Rattle.sent.specs.rules.Opening.{openedBy, numberingFrom}
-use Rattle.machine.specs.declared.Reply.{Reply}
+use Rattle.machine_answers.specs.declared.Reply.{Reply}
 use Rattle.sent.specs.declared.Bus.{Bus}
 use Rattle.sent.specs.declared.Bus.the-variants.{Bytes, Halves}
 use Rattle.sent.specs.declared.Opened.{Opened}

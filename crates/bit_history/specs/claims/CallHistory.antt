@@ -21,8 +21,8 @@ use Rattle.law_effects.specs.claims.Wrote.{Tells}
 use Rattle.bit_stamps.specs.rules.Stamps.{entryAt}
 use Rattle.bit_history.specs.claims.History.{Numbered, lastNumber, numbersFit, stampedAll, chosenBit}
 use Rattle.flash.specs.rules.Step.{stepOf}
-use Rattle.flash.specs.claims.Totals.{Lent, answerTo}
-use Rattle.flash.specs.declared.Session.{Session}
+use Rattle.flash_laws.specs.claims.Totals.{Lent, answerTo}
+use Rattle.flash_session.specs.declared.Session.{Session}
 use Rattle.flash_runs.specs.rules.Entries.{callEntries, runEntries}
 use Rattle.flash_runs.specs.rules.Run.{goesOn, enough}
 use Rattle.bit_history.specs.claims.Accepted.{judgedOne}

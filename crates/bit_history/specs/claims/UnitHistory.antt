@@ -22,13 +22,14 @@ use Rattle.bit_history.specs.claims.History.{Numbered, lastNumber, numbe
 use Rattle.sent.specs.rules.Bus.{unitsInWord, pushed}
 use Rattle.sent.specs.rules.Feeding.{State, next}
 use Rattle.sent.specs.rules.Line.{isStart, unitStep}
-use Rattle.machine.specs.rules.Machine.{dataBytes, wordStep}
+use Rattle.machine_loads.specs.rules.Loads.{dataBytes}
+use Rattle.machine.specs.rules.Machine.{wordStep}
 use Rattle.sent.specs.rules.Opening.{openedBy, numberingFrom}
 use Rattle.sent.specs.declared.Bus.{Bus}
-use Rattle.machine.specs.declared.Core.{Core}
-use Rattle.machine.specs.declared.Kept.{Kept}
-use Rattle.machine.specs.declared.Phase.{Phase}
-use Rattle.machine.specs.declared.Phase.the-variants as phase
+use Rattle.machine_answers.specs.declared.Core.{Core}
+use Rattle.machine_answers.specs.declared.Kept.{Kept}
+use Rattle.machine_answers.specs.declared.Phase.{Phase}
+use Rattle.machine_answers.specs.declared.Phase.the-variants as phase
 use Rattle.sent.specs.declared.Session.{Session}
 use Rattle.bit_watch.specs.rules.Watched.{entriesAfter}
 use Rattle.bit_history.specs.claims.Accepted.{one, judgedOne}

@@ -2,7 +2,7 @@
 use Prim.Native.Nat.{ℕ}
 use mathlib.Core.Path.{refl, sym, ap, _∙_}
 use lib.ListN.{length-map}
-use Rattle.flash.specs.declared.Called.{Called}
+use Rattle.flash_session.specs.declared.Called.{Called}
 use Rattle.bit_runs.specs.rules.Runs.{ended}
 use Rattle.bit_runs.proofs.Runs.{words-refused, words-taken}
 use borrow.Author.Needs.{needs}

@@ -9,9 +9,9 @@ use Rattle.opcodes.specs.rules.Answers.{accepted, codeOf}
 use Rattle.opcodes.specs.declared.Dialect.the-variants.{Am17xx}
 use Rattle.bit_choice.specs.rules.Chosen.{choiceOf, chosenPlaces}
 use Rattle.bit_choice.specs.declared.Chosen.{Chosen}
-use Rattle.flash.specs.rules.Opening.{numberingFrom}
-use Rattle.flash.specs.declared.Called.{Called}
-use Rattle.flash.specs.declared.Opened.{Opened}
+use Rattle.flash_session.specs.rules.Opening.{numberingFrom}
+use Rattle.flash_session.specs.declared.Called.{Called}
+use Rattle.flash_session.specs.declared.Opened.{Opened}
 use Rattle.flash_runs.specs.rules.Entries.{entriesFrom, offsetsFrom}
 use Rattle.flash_runs.specs.rules.Run.{ranFrom}
 use Rattle.checking.specs.rules.Report.{windows, opened}

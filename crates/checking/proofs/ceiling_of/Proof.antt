@@ -5,7 +5,7 @@ use mathlib.Core.Path.{sym, _∙_}
 use native.Mathlib.Nat.{mul-le-mul}
 use native.Mathlib.Omega.{arith}
 use Rattle.words.proofs.Choice.{chosen, passed}
-use Rattle.flash.proofs.Cases.{length-small}
+use Rattle.flash_session.proofs.Lengths.{length-small}
 use Rattle.checking.specs.rules.Counting.{mostOf}
 use Rattle.checking.proofs.ceiling_of.Statement.{statement}
 use Rattle.checking.proofs.ceiling_of.Tie as tie

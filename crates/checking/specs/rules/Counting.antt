@@ -5,8 +5,8 @@ use lib.ListN.{length}
 use Rattle.words.specs.rules.Choice.{pick}
 use Rattle.opcodes.specs.rules.Answers.{codeOf}
 use Rattle.opcodes.specs.declared.Dialect.the-variants.{Am17xx}
-use Rattle.flash.specs.rules.Opening.{goodLength, openedBy}
-use Rattle.flash.specs.declared.Called.{Called}
+use Rattle.flash_session.specs.rules.Opening.{goodLength, openedBy}
+use Rattle.flash_session.specs.declared.Called.{Called}
 use Rattle.flash_runs.specs.claims.Ceiling.{ceiling}
 use Rattle.checking.specs.rules.Report.{windows, lastAnswer}
 use Rattle.checking.specs.declared.Counted.{Counted}

@@ -7,9 +7,9 @@ use Rattle.windows.specs.rules.Map.{zeroWindow}
 use Rattle.windows.specs.declared.Window.{Window}
 use Rattle.opcodes.specs.rules.Answers.{accepted, codeOf, valueOf}
 use Rattle.opcodes.specs.declared.Dialect.{Dialect}
-use Rattle.flash.specs.rules.Opening.{openedBy}
-use Rattle.flash.specs.declared.Called.{Called}
-use Rattle.flash.specs.declared.Opened.{Opened}
+use Rattle.flash_session.specs.rules.Opening.{openedBy}
+use Rattle.flash_session.specs.declared.Called.{Called}
+use Rattle.flash_session.specs.declared.Opened.{Opened}
 use Rattle.flash_runs.specs.rules.Run.{ranFrom}
 use Rattle.checking.specs.declared.Report.{Report}
 

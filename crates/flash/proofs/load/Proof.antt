@@ -1,8 +1,9 @@
 -- `flash::load` meets its contract: each arm is one case of the judgement.
 use borrow.Author.Needs.{needs}
-use Rattle.flash.specs.rules.Step.{overflowing, loadJudgedAs}
+use Rattle.flash_commands.specs.rules.Commands.{overflowing}
+use Rattle.flash.specs.rules.Step.{loadJudgedAs}
 use Rattle.commands.specs.declared.Judged.{Judged}
-use Rattle.flash.specs.rules.Sessions.{CallOutcome}
+use Rattle.flash_session.specs.rules.Sessions.{CallOutcome}
 use denote.Ref.{now}
 use mathlib.Core.Path.{sym, ap, _∙_}
 use Rattle.flash.proofs.load.Statement.{statement}

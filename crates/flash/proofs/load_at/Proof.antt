@@ -1,7 +1,7 @@
 -- `flash::load_at` meets its contract: the data are looked for, then a number, and the part lent to the copy is the data.
 use borrow.Author.Needs.{needs}
 use Rattle.flash.proofs.Cases.{load-short, load-spent, load-whole}
-use Rattle.flash.specs.rules.Sessions.{CallOutcome}
+use Rattle.flash_session.specs.rules.Sessions.{CallOutcome}
 use Rattle.reading.specs.rules.Reading.{dataWords}
 use Rattle.reading.proofs.Reading.{are-there}
 use Rattle.words.specs.rules.Bytes.{bytesAt}

@@ -1,6 +1,6 @@
 -- `flash::perform` meets its contract: each arm hands its words over, and is one case of the definition.
 use borrow.Author.Needs.{needs}
-use Rattle.flash.specs.declared.Session.{Session}
+use Rattle.flash_session.specs.declared.Session.{Session}
 use Rattle.flash.specs.rules.Step.{performed}
 use Rattle.opcodes.specs.declared.Command.{Command}
 use denote.Ref.{now}

@@ -2,7 +2,7 @@
 use mathlib.Core.Path.{sym, ap, _∙_}
 use borrow.Author.Tests.{eq-eqb, ne-eqb}
 use Rattle.words.proofs.Choice.{chosen, passed}
-use Rattle.flash.specs.rules.Sessions.{CallOutcome}
+use Rattle.flash_session.specs.rules.Sessions.{CallOutcome}
 use Rattle.flash_runs.specs.rules.Entries.{stampsFrom}
 use Rattle.flash_runs.specs.rules.Run.{ranFrom}
 use borrow.Author.Needs.{needs}

@@ -8,10 +8,10 @@ use Rattle.windows.specs.rules.Map.{zeroWindow}
 use Rattle.windows.specs.declared.Window.{Window}
 use Rattle.opcodes.specs.declared.Dialect.{Dialect}
 use Rattle.opcodes.specs.declared.Dialect.the-variants.{Am17xx}
-use Rattle.flash.specs.rules.Opening.{openedBy}
-use Rattle.flash.specs.claims.Reached.{Reached, opened, called}
+use Rattle.flash_session.specs.rules.Opening.{openedBy}
+use Rattle.flash_laws.specs.claims.Reached.{Reached, opened, called}
 use Rattle.flash.specs.rules.Step.{stepOf}
-use Rattle.flash.specs.declared.Session.{Session}
+use Rattle.flash_session.specs.declared.Session.{Session}
 use Rattle.flash_runs.specs.rules.Run.{runOf}
 use Rattle.flash_runs.specs.claims.Fetched.{limitOf}
 

@@ -7,8 +7,8 @@ use mathlib.Core.Path.{_≡_}
 use Rattle.opcodes.specs.rules.Answers.{codeOf, kindOf}
 use Rattle.opcodes.specs.declared.Refusal.{Refusal}
 use Rattle.flash.specs.rules.Step.{stepOf}
-use Rattle.flash.specs.declared.Called.{Called}
-use Rattle.flash.specs.declared.Session.{Session}
+use Rattle.flash_session.specs.declared.Called.{Called}
+use Rattle.flash_session.specs.declared.Session.{Session}
 use Rattle.flash_runs.specs.rules.Run.{goesOn, carriedOn, enough, runOf}
 
 -- is it a refusal, and not 14?

@@ -12,12 +12,12 @@ use Rattle.opcodes.specs.declared.Found.{Found}
 use Rattle.opcodes.specs.declared.Found.the-variants.{Known, Retired, Unknown}
 use Rattle.opcodes.specs.declared.Mode.the-variants.{Flash}
 use Rattle.opcodes.specs.declared.Refusal.{Refusal}
-use Rattle.flash.specs.claims.Calls.{dataWordsOf, met, spares}
-use Rattle.flash.specs.rules.Opening.{openedBy}
-use Rattle.flash.specs.claims.Reached.{Reached, opened, called}
-use Rattle.flash.specs.rules.Sessions.{countedOn}
+use Rattle.flash_commands.specs.claims.Ways.{dataWordsOf, met, spares}
+use Rattle.flash_session.specs.rules.Opening.{openedBy}
+use Rattle.flash_laws.specs.claims.Reached.{Reached, opened, called}
+use Rattle.flash_session.specs.rules.Sessions.{countedOn}
 use Rattle.flash.specs.rules.Step.{stepOf}
-use Rattle.flash.specs.declared.Session.{Session}
+use Rattle.flash_session.specs.declared.Session.{Session}
 
 -- an opening, by its refusal: the magic word; none where it is refused with 1 or 3
 abbrev pub openingFetches : Refusal → ℕ

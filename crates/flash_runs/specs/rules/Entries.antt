@@ -6,11 +6,11 @@ use Rattle.words.specs.rules.Choice.{pick}
 use Rattle.commands.specs.rules.Wrote.{renumbered}
 use Rattle.commands.specs.declared.Wrote.{Wrote}
 use Rattle.bit_stamps.specs.rules.Stamps.{stamped}
-use Rattle.flash.specs.rules.Sessions.{CallOutcome}
+use Rattle.flash_session.specs.rules.Sessions.{CallOutcome}
 use Rattle.flash.specs.rules.Step.{stepOf}
-use Rattle.flash.specs.declared.Called.{Called}
-use Rattle.flash.specs.declared.Opened.{Opened}
-use Rattle.flash.specs.declared.Session.{Session}
+use Rattle.flash_session.specs.declared.Called.{Called}
+use Rattle.flash_session.specs.declared.Opened.{Opened}
+use Rattle.flash_session.specs.declared.Session.{Session}
 use Rattle.flash_runs.specs.rules.Run.{goesOn, enough, opens}
 
 -- what a call wrote, by its number

@@ -4,11 +4,11 @@ use mathlib.Core.Bool.{Bool, not, _&&_}
 use mathlib.Core.List.{List}
 use Rattle.words.specs.rules.Choice.{pick}
 use Rattle.opcodes.specs.rules.Answers.{accepted}
-use Rattle.flash.specs.rules.Sessions.{CallOutcome, _leaving_, unchanged}
+use Rattle.flash_session.specs.rules.Sessions.{CallOutcome, _leaving_, unchanged}
 use Rattle.flash.specs.rules.Step.{stepOf}
-use Rattle.flash.specs.declared.Called.{Called}
-use Rattle.flash.specs.declared.Opened.{Opened}
-use Rattle.flash.specs.declared.Session.{Session}
+use Rattle.flash_session.specs.declared.Called.{Called}
+use Rattle.flash_session.specs.declared.Opened.{Opened}
+use Rattle.flash_session.specs.declared.Session.{Session}
 
 -- does the session go on after a call?
 unfoldable pub goesOn : Called → Bool

@@ -20,16 +20,18 @@ use Rattle.reading.specs.rules.Reading.{pastWords, argument, dataWords}
 use Rattle.commands.specs.rules.Commands.{loadJudged}
 use Rattle.commands.specs.declared.Judged.{Judged}
 use Rattle.commands.specs.declared.Judged.the-variants.{Granted, Refused}
-use Rattle.flash.specs.rules.Opening.{goodLength}
-use Rattle.flash.specs.rules.Sessions as flash
-use Rattle.flash.specs.rules.Step.{overflowing, requested, stepOf}
-use Rattle.flash.specs.declared.Session.{Session}
-use Rattle.machine.specs.rules.Machine as machine
-use Rattle.machine.specs.rules.Machine.{said, _leaving_, withChecksum, begun, await, wordStep}
-use Rattle.machine.specs.rules.Replies.{oneWord, wordThen, acknowledged}
+use Rattle.flash_session.specs.rules.Opening.{goodLength}
+use Rattle.flash_session.specs.rules.Sessions as flash
+use Rattle.flash_commands.specs.rules.Commands.{overflowing, requested}
+use Rattle.flash.specs.rules.Step.{stepOf}
+use Rattle.flash_session.specs.declared.Session.{Session}
+use Rattle.machine_answers.specs.rules.Answers as machine
+use Rattle.machine_answers.specs.rules.Answers.{said, _leaving_, withChecksum, await}
+use Rattle.machine.specs.rules.Machine.{begun, wordStep}
+use Rattle.machine_answers.specs.rules.Replies.{oneWord, wordThen, acknowledged}
 use Rattle.machine.specs.claims.Words.{afterWords}
-use Rattle.machine.specs.declared.Core.{Core}
-use Rattle.machine.specs.declared.Phase.the-variants.{Opcode}
+use Rattle.machine_answers.specs.declared.Core.{Core}
+use Rattle.machine_answers.specs.declared.Phase.the-variants.{Opcode}
 
 -- a flash session and a sent one agree in all that both have: the windows, the dialect, the end, the switch, the checksum, and the totals once a Request that
 -- stands is settled

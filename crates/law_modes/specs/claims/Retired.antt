@@ -8,14 +8,14 @@ use lib.ListN.{length}
 use Rattle.words.specs.rules.Bytes.{wordAt}
 use Rattle.windows.specs.rules.Window.{sumOf}
 use Rattle.opcodes.specs.declared.Refusal.the-variants.{Retired}
-use Rattle.flash.specs.rules.Opening.{goodLength}
-use Rattle.flash.specs.rules.Sessions as flash
+use Rattle.flash_session.specs.rules.Opening.{goodLength}
+use Rattle.flash_session.specs.rules.Sessions as flash
 use Rattle.flash.specs.rules.Step.{stepOf}
-use Rattle.flash.specs.declared.Session.{Session}
-use Rattle.machine.specs.rules.Machine as machine
+use Rattle.flash_session.specs.declared.Session.{Session}
+use Rattle.machine_answers.specs.rules.Answers as machine
 use Rattle.machine.specs.rules.Machine.{wordStep}
-use Rattle.machine.specs.declared.Core.{Core}
-use Rattle.machine.specs.declared.Phase.the-variants.{Opcode}
+use Rattle.machine_answers.specs.declared.Core.{Core}
+use Rattle.machine_answers.specs.declared.Phase.the-variants.{Opcode}
 
 pub record JumpRefused : Type 0 where
   -- a call on it, whatever stands after it in the image, also nothing: 15 at its offset, no event, the session ended, its one word counted and nothing else of

@@ -14,11 +14,11 @@ use Rattle.opcodes.specs.declared.Mode.the-variants.{Flash}
 use Rattle.opcodes.specs.declared.Refusal.the-variants as refusal
 use Rattle.ledger.specs.claims.Agreement.{KeepsNone}
 use Rattle.ledger.specs.rules.Totals.{isSpent}
-use Rattle.flash.specs.claims.Reached.{Reached}
-use Rattle.flash.specs.rules.Sessions.{CallOutcome, _leaving_, withTotals}
+use Rattle.flash_laws.specs.claims.Reached.{Reached}
+use Rattle.flash_session.specs.rules.Sessions.{CallOutcome, _leaving_, withTotals}
 use Rattle.flash.specs.rules.Step.{stepOf}
-use Rattle.flash.specs.declared.Called.{Called}
-use Rattle.flash.specs.declared.Session.{Session}
+use Rattle.flash_session.specs.declared.Called.{Called}
+use Rattle.flash_session.specs.declared.Session.{Session}
 use Rattle.law_numbering.specs.claims.LeftOut.{unnumbered, byAny, takes}
 
 -- a session with the numbers left out

@@ -16,14 +16,15 @@ use Rattle.ledger.specs.rules.Totals.{isSpent}
 use Rattle.sent.specs.rules.Feeding.{State, totals, next, heard, fed, answers}
 use Rattle.sent.specs.rules.Line as line
 use Rattle.sent.specs.rules.Line.{unitStep}
-use Rattle.machine.specs.rules.Machine.{WordOutcome, _leaving_, tallied, changed, wordStep}
+use Rattle.machine_answers.specs.rules.Answers.{WordOutcome, _leaving_, tallied, changed}
+use Rattle.machine.specs.rules.Machine.{wordStep}
 use Rattle.sent.specs.rules.Opening.{openedBy}
 use Rattle.sent.specs.declared.Bus.{Bus}
-use Rattle.machine.specs.declared.Core.{Core}
-use Rattle.machine.specs.declared.Phase.{Phase}
-use Rattle.machine.specs.declared.Phase.the-variants as phase
+use Rattle.machine_answers.specs.declared.Core.{Core}
+use Rattle.machine_answers.specs.declared.Phase.{Phase}
+use Rattle.machine_answers.specs.declared.Phase.the-variants as phase
 use Rattle.sent.specs.declared.Session.{Session}
-use Rattle.machine.specs.declared.Taken.{Taken}
+use Rattle.machine_answers.specs.declared.Taken.{Taken}
 use Rattle.law_numbering.specs.claims.LeftOut.{unnumbered, byAny, takes}
 
 -- a core with the numbers left out

@@ -16,7 +16,7 @@ use Rattle.ledger.specs.rules.Totals.{standing, nothing as zero}
 use Rattle.ledger.specs.declared.Standing.{Standing}
 use Rattle.sent.specs.rules.Bus.{startUnit, unitsOf}
 use Rattle.sent.specs.rules.Feeding.{State, checksum, totals, heard}
-use Rattle.machine.specs.rules.Replies.{silence}
+use Rattle.machine_answers.specs.rules.Replies.{silence}
 use Rattle.sent.specs.declared.Bus.{Bus}
 use Rattle.sent.specs.declared.Bus.the-variants.{Bytes}
 use Rattle.law_retries.specs.claims.Pieces.{Piece, load, setting, enableOpcode, requestOpcode, wordsOf, allWords, Covers}

@@ -16,11 +16,11 @@ use Rattle.sent.specs.rules.Feeding.{State, Heard, checksum, totals, next, hear
 use Rattle.words.specs.rules.Bytes.{AreBytes}
 use Rattle.sent.specs.rules.Opening.{openedBy, numberingFrom}
 use Rattle.sent.specs.rules.Line.{startAnswer}
-use Rattle.machine.specs.rules.Replies.{silence, oneWord, wordThen, acknowledged}
+use Rattle.machine_answers.specs.rules.Replies.{silence, oneWord, wordThen, acknowledged}
 use Rattle.sent.specs.declared.Bus.{Bus}
-use Rattle.machine.specs.declared.Core.{Core}
+use Rattle.machine_answers.specs.declared.Core.{Core}
 use Rattle.sent.specs.declared.Opened.{Opened}
-use Rattle.machine.specs.declared.Phase.the-variants.{Opcode}
+use Rattle.machine_answers.specs.declared.Phase.the-variants.{Opcode}
 use Rattle.law_retries.specs.claims.Pieces.{Piece, allWords, AllSendable, Covers, enableOpcode, requestOpcode, startOverOpcode}
 
 -- the state after some words, on a line

@@ -2,7 +2,7 @@
 use borrow.Author.Needs.{needs}
 use mathlib.Core.Path.{sym, ap, _∙_}
 use Rattle.machine.specs.rules.Purpose.{purposeOf}
-use Rattle.machine.specs.declared.Phase.{Phase}
+use Rattle.machine_answers.specs.declared.Phase.{Phase}
 use Rattle.machine.proofs.purpose_of.Statement.{statement}
 use Rattle.machine.proofs.purpose_of.Tie as tie
 

@@ -2,7 +2,7 @@
 use borrow.Author.Needs.{needs}
 use mathlib.Core.Path.{sym, ap, _∙_}
 use Rattle.words.proofs.Choice.{chosen, passed}
-use Rattle.machine.specs.rules.Machine.{WordOutcome}
+use Rattle.machine_answers.specs.rules.Answers.{WordOutcome}
 use Rattle.machine.proofs.take_command.Statement.{statement}
 use Rattle.machine.proofs.take_command.Tie as tie
 

@@ -16,13 +16,15 @@ use Rattle.opcodes.specs.declared.Mode.the-variants.{Sent}
 use Rattle.opcodes.specs.declared.Refusal.the-variants.{None}
 use Rattle.ledger.specs.claims.Agreement.{plus}
 use Rattle.ledger.specs.rules.Totals.{standing}
-use Rattle.machine.specs.rules.Machine.{quiet, _leaving_, noneKept, wordStep}
-use Rattle.machine.specs.rules.Replies.{farewell, sentBytes}
+use Rattle.machine_answers.specs.rules.Answers.{quiet, _leaving_}
+use Rattle.machine_commands.specs.rules.Performed.{noneKept}
+use Rattle.machine.specs.rules.Machine.{wordStep}
+use Rattle.machine_answers.specs.rules.Replies.{farewell, sentBytes}
 use Rattle.machine.specs.claims.Words.{afterWords}
-use Rattle.machine.specs.declared.Core.{Core}
-use Rattle.machine.specs.declared.Kept.{Kept}
-use Rattle.machine.specs.declared.Phase.{Phase}
-use Rattle.machine.specs.declared.Phase.the-variants as phase
+use Rattle.machine_answers.specs.declared.Core.{Core}
+use Rattle.machine_answers.specs.declared.Kept.{Kept}
+use Rattle.machine_answers.specs.declared.Phase.{Phase}
+use Rattle.machine_answers.specs.declared.Phase.the-variants as phase
 
 -- the size that a command counts for: that of a load or a fill
 abbrev pub sizeOf : Command → Kept → ℕ → List ℕ

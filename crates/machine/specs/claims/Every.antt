@@ -7,9 +7,9 @@ use mathlib.Core.Path.{_≡_}
 use lib.ListN.{length}
 use Rattle.opcodes.specs.rules.Answers.{codeOf}
 use Rattle.words.specs.rules.Bytes.{AreBytes}
-use Rattle.machine.specs.rules.Machine.{WordOutcome, stop}
-use Rattle.machine.specs.declared.Core.{Core}
-use Rattle.machine.specs.declared.Phase.the-variants.{Opcode}
+use Rattle.machine_answers.specs.rules.Answers.{WordOutcome, stop}
+use Rattle.machine_answers.specs.declared.Core.{Core}
+use Rattle.machine_answers.specs.declared.Phase.the-variants.{Opcode}
 
 -- what every word does, whatever awaits it
 pub record EveryWord (k : Core) (m : List ℕ) (o : WordOutcome) : Type 0 where

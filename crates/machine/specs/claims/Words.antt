@@ -7,10 +7,12 @@ use Rattle.opcodes.specs.rules.Opcodes.{lookedUp}
 use Rattle.opcodes.specs.declared.Command.{Command}
 use Rattle.opcodes.specs.declared.Found.the-variants.{Known}
 use Rattle.opcodes.specs.declared.Mode.the-variants.{Sent}
-use Rattle.machine.specs.rules.Machine.{WordOutcome, await, noneKept, keeping, performed, begun, opening, wordStep}
-use Rattle.machine.specs.declared.Core.{Core}
-use Rattle.machine.specs.declared.Kept.{Kept}
-use Rattle.machine.specs.declared.Phase.the-variants.{Opcode, Argument}
+use Rattle.machine_answers.specs.rules.Answers.{WordOutcome, await}
+use Rattle.machine_commands.specs.rules.Performed.{noneKept, performed}
+use Rattle.machine.specs.rules.Machine.{keeping, begun, opening, wordStep}
+use Rattle.machine_answers.specs.declared.Core.{Core}
+use Rattle.machine_answers.specs.declared.Kept.{Kept}
+use Rattle.machine_answers.specs.declared.Phase.the-variants.{Opcode, Argument}
 
 -- some more words after an outcome: that of the last of them
 unfoldable pub afterWords : WordOutcome → List ℕ → WordOutcome

@@ -14,10 +14,12 @@ use Rattle.ledger.specs.declared.Totals.{Totals}
 use Rattle.commands.specs.rules.Wrote.{noneWrote, bytesWrote}
 use Rattle.commands.specs.declared.Judged.the-variants.{Granted}
 use Rattle.commands.specs.declared.Wrote.{Wrote}
-use Rattle.machine.specs.rules.Machine.{numberedFromOne, WordOutcome, awaited, wordStep}
-use Rattle.machine.specs.declared.Core.{Core}
-use Rattle.machine.specs.declared.Phase.{Phase}
-use Rattle.machine.specs.declared.Phase.the-variants as phase
+use Rattle.machine_answers.specs.rules.Answers.{numberedFromOne, WordOutcome}
+use Rattle.machine_loads.specs.rules.Loads.{awaited}
+use Rattle.machine.specs.rules.Machine.{wordStep}
+use Rattle.machine_answers.specs.declared.Core.{Core}
+use Rattle.machine_answers.specs.declared.Phase.{Phase}
+use Rattle.machine_answers.specs.declared.Phase.the-variants as phase
 
 -- is bit p of memory among those that are told?
 abbrev pub tells : Wrote → ℕ → Bool

@@ -10,10 +10,12 @@ use Rattle.opcodes.specs.declared.Found.{Found}
 use Rattle.opcodes.specs.declared.Found.the-variants as found
 use Rattle.opcodes.specs.declared.Mode.the-variants.{Sent}
 use Rattle.opcodes.specs.declared.Refusal.the-variants as refusal
-use Rattle.machine.specs.rules.Machine.{WordOutcome, _leaving_, refused, noneKept, toward, begun, opening, inPhase}
-use Rattle.machine.specs.declared.Core.{Core}
-use Rattle.machine.specs.declared.Phase.{Phase}
-use Rattle.machine.specs.declared.Phase.the-variants as phase
+use Rattle.machine_answers.specs.rules.Answers.{WordOutcome, _leaving_, refused}
+use Rattle.machine_commands.specs.rules.Performed.{noneKept}
+use Rattle.machine.specs.rules.Machine.{toward, begun, opening, inPhase}
+use Rattle.machine_answers.specs.declared.Core.{Core}
+use Rattle.machine_answers.specs.declared.Phase.{Phase}
+use Rattle.machine_answers.specs.declared.Phase.the-variants as phase
 use Rattle.machine.specs.declared.Purpose.{Purpose}
 use Rattle.machine.specs.declared.Purpose.the-variants.{Refused, Command, Data, Echo}
 

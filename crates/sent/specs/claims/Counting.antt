@@ -8,12 +8,12 @@ use Rattle.ledger.specs.rules.Totals.{atOpening, numberedAs}
 use Rattle.ledger.specs.declared.Totals.{Totals}
 use Rattle.sent.specs.rules.Bus.{unitsOf}
 use Rattle.sent.specs.rules.Feeding.{State, totals, fed, answers}
-use Rattle.machine.specs.rules.Machine.{tallied, changed}
-use Rattle.machine.specs.rules.Replies.{doneWord}
+use Rattle.machine_answers.specs.rules.Answers.{tallied, changed}
+use Rattle.machine_answers.specs.rules.Replies.{doneWord}
 use Rattle.sent.specs.declared.Bus.{Bus}
 use Rattle.sent.specs.declared.Bus.the-variants.{Bytes, Halves}
-use Rattle.machine.specs.declared.Core.{Core}
-use Rattle.machine.specs.declared.Phase.the-variants as phase
+use Rattle.machine_answers.specs.declared.Core.{Core}
+use Rattle.machine_answers.specs.declared.Phase.the-variants as phase
 
 -- a state with other totals, its numbers as they are
 abbrev pub withTotals : Totals → State → State

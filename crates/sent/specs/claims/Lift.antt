@@ -17,12 +17,12 @@ use Rattle.sent.specs.rules.Bus.{unitBits, unitsInWord, startUnit, units
 use Rattle.sent.specs.rules.Feeding.{State, Heard, heard, fed, answers, replied}
 use Rattle.machine.specs.rules.Machine.{wordStep}
 use Rattle.sent.specs.rules.Opening.{openedBy}
-use Rattle.machine.specs.rules.Replies.{silence, sentBytes}
+use Rattle.machine_answers.specs.rules.Replies.{silence, sentBytes}
 use Rattle.machine.specs.claims.Every.{EveryWord}
 use Rattle.sent.specs.declared.Bus.{Bus}
 use Rattle.sent.specs.declared.Bus.the-variants.{Bytes, Halves}
-use Rattle.machine.specs.declared.Core.{Core}
-use Rattle.machine.specs.declared.Taken.{Taken}
+use Rattle.machine_answers.specs.declared.Core.{Core}
+use Rattle.machine_answers.specs.declared.Taken.{Taken}
 
 -- a session that has been started, at a word's beginning, and its memory
 abbrev pub atWord : Core → List ℕ → State

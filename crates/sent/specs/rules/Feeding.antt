@@ -11,8 +11,8 @@ use Rattle.opcodes.specs.declared.Refusal.the-variants.{None}
 use Rattle.ledger.specs.declared.Totals.{Totals}
 use Rattle.sent.specs.rules.Line.{unitStep}
 use Rattle.sent.specs.declared.Bus.{Bus}
-use Rattle.machine.specs.rules.Replies.{sentBytes}
-use Rattle.machine.specs.declared.Reply.{Reply}
+use Rattle.machine_answers.specs.rules.Replies.{sentBytes}
+use Rattle.machine_answers.specs.declared.Reply.{Reply}
 use Rattle.sent.specs.declared.Session.{Session}
 
 -- a session with the memory that is lent to it, handed from step to step

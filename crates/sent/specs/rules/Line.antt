@@ -13,12 +13,12 @@ use Rattle.opcodes.specs.declared.Refusal.{Refusal}
 use Rattle.opcodes.specs.declared.Refusal.the-variants as refusal
 use Rattle.commands.specs.rules.Wrote.{noneWrote}
 use Rattle.sent.specs.rules.Bus.{unitBits, unitsInWord, startUnit, answerUnit, pushed}
-use Rattle.machine.specs.rules.Machine as machine
+use Rattle.machine_answers.specs.rules.Answers as machine
 use Rattle.machine.specs.rules.Machine.{wordStep}
-use Rattle.machine.specs.rules.Replies.{silence}
+use Rattle.machine_answers.specs.rules.Replies.{silence}
 use Rattle.sent.specs.declared.Answer.{Answer}
 use Rattle.sent.specs.declared.Bus.{Bus}
-use Rattle.machine.specs.declared.Reply.{Reply}
+use Rattle.machine_answers.specs.declared.Reply.{Reply}
 use Rattle.sent.specs.declared.Session.{Session}
 
 -- what a unit gives: its answer and the memory that it leaves

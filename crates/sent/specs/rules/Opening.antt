@@ -11,13 +11,13 @@ use Rattle.opcodes.specs.declared.Dialect.{Dialect}
 use Rattle.opcodes.specs.declared.Dialect.the-variants.{Am17xx}
 use Rattle.opcodes.specs.declared.Refusal.the-variants.{None, Map}
 use Rattle.ledger.specs.rules.Totals.{atOpening}
-use Rattle.machine.specs.rules.Machine.{numberedFromOne}
-use Rattle.machine.specs.rules.Replies.{silence}
+use Rattle.machine_answers.specs.rules.Answers.{numberedFromOne}
+use Rattle.machine_answers.specs.rules.Replies.{silence}
 use Rattle.sent.specs.declared.Bus.{Bus}
 use Rattle.sent.specs.declared.Bus.the-variants.{Bytes, Halves}
 use Rattle.sent.specs.declared.Opened.{Opened}
-use Rattle.machine.specs.declared.Phase.the-variants as phase
-use Rattle.machine.specs.declared.Reply.{Reply}
+use Rattle.machine_answers.specs.declared.Phase.the-variants as phase
+use Rattle.machine_answers.specs.declared.Reply.{Reply}
 use Rattle.sent.specs.declared.Session.{Session}
 
 -- the greeting, BOOTME; none on the line of halves
