@@ -1,5 +1,5 @@
-/* The bench entries of the proved loader of boot scripts: whole sessions and runs, scripts as text, and the register of
-   option fields.
+/* The bench entries of the proved loader of boot scripts: whole sessions and runs, scripts as text, the register of
+   option fields, and the host on the other end of the line.
 
    Those of sessions and runs take the map as bytes: 12 for each window, its first address, length and rights as
    little-endian words. Each of them takes the memory: the bytes of all windows, one window after another.
@@ -104,6 +104,35 @@ uint64_t ais_register_bit(const uint8_t *text, size_t text_len, uint32_t word, u
    where that release has no such field, 16 where the value is too wide for it, in this order. What lies past 20 bytes is left alone. */
 uint64_t ais_register_command(const uint8_t *text, size_t text_len, const uint8_t *name, size_t name_len, uint32_t release, uint32_t value,
                               uint8_t *command, size_t command_len);
+
+/* The host: the group controller's half of the line, which sends an image to a loader. It is opened, hears what comes in, and takes turns: each is one
+   look at what was heard and then at most one sending. The caller owns the line, the clock and the waits, and has to let every reply be heard
+   before the next turn. A host is so many bytes that the caller lends to each call; another length is 19, and nothing is changed. */
+#define AIS_HOST_BYTES 41
+
+/* Opens a host on line 0 (bytes) or 1 (halves), in dialect 0 (AM17xx) or 1 (DM648), for an image that each turn is lent again. Each of its waits allows
+   so many tries, 1 to 1,000; it goes back at most `limit` times where a checksum differs; and its Ping has a count of `pings`. The value is 0 or
+   the refusal: 19 for a line or a dialect that there is not, which changes nothing; 3 and 4 for the image as in ais_flash_run, 20 for the tries, in this
+   order, and the host has ended then. */
+uint8_t ais_host_open(uint8_t *host, size_t host_len, uint8_t line, uint8_t dialect, const uint8_t *image, size_t image_len, uint32_t tries,
+                      uint8_t limit, uint32_t pings);
+
+/* Hears one byte; on the 16-bit line a half is two, the low one first. The value is 0, or 19. */
+uint8_t ais_host_hear(uint8_t *host, size_t host_len, uint8_t byte);
+
+/* Takes a turn. The value is refusal * 2^56 + ended * 2^52 + kind * 2^48 + what goes out, `ended` being 1 where the host has ended. Kind 0 is nothing and
+   1 the start unit, with 0 behind them; 2 is a word, and its value; 3 is a stretch of the image, and its length * 2^24 + its offset.
+   14 where the host had ended and 3 for a length of the image that is not the opening's leave the host as it was. 5, 6 and 15 as in ais_flash_run, where
+   the next command is met; 11 and 12 at a Request; and 20 where the tries of a wait are spent or an echo differs: these end the host, and nothing goes
+   out. Without a refusal an AM17xx host has ended when the words of its close go out, and a DM648 host when it has heard DONE. */
+uint64_t ais_host_turn(uint8_t *host, size_t host_len, const uint8_t *image, size_t image_len);
+
+/* Runs a whole exchange between a host and a freshly opened loader, on which no byte is lost: the greeting is heard before the first turn and every reply
+   before the next one, until the host has ended. The value is the refusal * 2^56 + the retries * 2^48 + the loader's first refusal but 14, or 0, * 2^40
+   + 2^32 where the loader entered + the entry address, 0 where it did not. The refusal is 19 for a line or a dialect that there is not, 1, 2, or
+   the host's own, in this order; of all but the host's in a turn the other parts are 0 and nothing is changed. The memory is left as the loader left it. */
+uint64_t ais_host_session(uint8_t line, uint8_t dialect, const uint8_t *map, size_t map_len, uint8_t *memory, size_t memory_len, const uint8_t *image,
+                          size_t image_len, uint32_t tries, uint8_t limit, uint32_t pings);
 
 #ifdef __cplusplus
 }

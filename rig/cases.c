@@ -914,7 +914,7 @@ static void write_seek_behind(struct writer *writer)
     writer->loaded.kept = writer->loaded.now;
 }
 
-static void write_image(struct writer *writer)
+void write_image(struct writer *writer)
 {
     struct random_source *random = &writer->random;
 
@@ -933,7 +933,7 @@ static void write_image(struct writer *writer)
 }
 
 /* An image about as long as an image can be: one long load, then perhaps commands and seeks far behind it. */
-static void write_large_image(struct writer *writer)
+void write_large_image(struct writer *writer)
 {
     struct random_source *random = &writer->random;
     const struct window *window = &writer->map->windows[0];
@@ -1158,7 +1158,7 @@ static void choose_map(struct random_source *random, struct map *map, bool is_la
         make_good_map(random, map);
 }
 
-static size_t choose_memory_length(struct random_source *random, const struct map *map, bool is_wrong)
+size_t choose_memory_length(struct random_source *random, const struct map *map, bool is_wrong)
 {
     uint32_t sum = (uint32_t)map_sum(map) <= 70000 ? (uint32_t)map_sum(map) : 4096;
 
@@ -1203,7 +1203,7 @@ static uint8_t choose_limit(struct random_source *random, size_t image_length)
 }
 
 /* The number of a line or a dialect, or one that there is not. */
-static uint8_t choose_number(struct random_source *random, bool right, bool is_wrong)
+uint8_t choose_number(struct random_source *random, bool right, bool is_wrong)
 {
     static const uint32_t wrong[] = {2, 3, 16, 128, 129, 254, 255};
 

@@ -42,7 +42,13 @@ void write_good_setting(struct writer *writer);
 void write_good_jump_and_close(struct writer *writer);
 void write_good_command(struct writer *writer);
 void write_flawed_command(struct writer *writer);
+void write_image(struct writer *writer); /* good commands and flawed ones, at times damaged */
+void write_large_image(struct writer *writer);
 void damage_script(struct writer *writer);
+
+/* The length of the memory and the number of a line or a dialect, or wrong ones. */
+size_t choose_memory_length(struct random_source *random, const struct map *map, bool is_wrong);
+uint8_t choose_number(struct random_source *random, bool right, bool is_wrong);
 
 /* Words of set windows, none of them twice, as many as they have and the choice may have at most. */
 void choose_words(struct random_source *random, const struct map *map, struct choice *choice);

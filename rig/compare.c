@@ -9,15 +9,14 @@
    Each case is run twice by each loader: as it is, and with words chosen, whose numbers are compared too. */
 #include "ais.h"
 #include "cases.h"
+#include "guards.h"
 #include "plain_loader.h"
 
 #include <inttypes.h>
-#include <signal.h>
 #include <stdio.h>
 #include <stdlib.h>
 #include <string.h>
 #include <time.h>
-#include <unistd.h>
 
 typedef uint64_t sent_entry(const uint8_t *, size_t, uint8_t *, size_t, const uint8_t *, size_t, uint8_t *, size_t);
 typedef uint64_t dm648_entry(uint8_t, const uint8_t *, size_t, uint8_t *, size_t, const uint8_t *, size_t, uint8_t *,
@@ -28,16 +27,7 @@ typedef uint64_t bits_run(uint8_t, const uint8_t *, size_t, const uint8_t *, siz
                           const uint8_t *, size_t, uint8_t);
 typedef uint64_t flash_entry(const uint8_t *, size_t, uint8_t *, size_t, const uint8_t *, size_t, uint8_t);
 
-/* A case that takes longer than CASE_SECONDS has no end. The longest takes some 14 seconds of processor time under an emulator. */
-enum { GUARD = 17, REFUSAL_LIMIT = 256, CASE_SECONDS = 300 };
-
-/* A copy of some bytes for one call, with guards before and after it. */
-struct lent {
-    uint8_t *whole;
-    uint8_t *bytes;
-    size_t length;
-    size_t guard;
-};
+enum { REFUSAL_LIMIT = 256 };
 
 /* What one loader was lent, and what it gave back. */
 struct outcome {
@@ -64,41 +54,6 @@ struct tally {
     counts fetched;          /* words in all flash cases */
     counts at_ceiling;       /* flash cases that fetched as many words as any may */
 };
-
-static char crash_notice[100];
-
-/* ---- Lending ---- */
-
-static struct lent lend(size_t length, size_t guard)
-{
-    struct lent lent = {.length = length, .guard = guard};
-
-    lent.whole = malloc(length + 2 * guard + (length + guard == 0));
-    if (lent.whole == NULL) {
-        fprintf(stderr, "no memory left\n");
-        exit(2);
-    }
-    lent.bytes = lent.whole + guard;
-    memset(lent.whole, 0xA5, guard);
-    memset(lent.bytes + length, 0xA5, guard);
-    return lent;
-}
-
-static struct lent lend_copy(const uint8_t *bytes, size_t length, size_t guard)
-{
-    struct lent lent = lend(length, guard);
-
-    memcpy(lent.bytes, bytes, length);
-    return lent;
-}
-
-static bool guards_hold(const struct lent *lent)
-{
-    for (size_t index = 0; index < lent->guard; index++)
-        if (lent->whole[index] != 0xA5 || lent->bytes[lent->length + index] != 0xA5)
-            return false;
-    return true;
-}
 
 /* ---- Running one loader ---- */
 
@@ -183,18 +138,6 @@ static void free_outcome(struct outcome *outcome)
 }
 
 /* ---- Comparing ---- */
-
-static bool same_bytes(const char *name, const struct lent *proved, const struct lent *plain)
-{
-    for (size_t index = 0; index < proved->length; index++) {
-        if (proved->bytes[index] != plain->bytes[index]) {
-            printf("%s differs at byte %zu: proved %02X, plain %02X\n", name, index, proved->bytes[index],
-                   plain->bytes[index]);
-            return false;
-        }
-    }
-    return true;
-}
 
 /* The room past the replies, against what it held before the call. */
 static bool room_past_replies_kept(const struct bench_case *bench_case, const struct outcome *outcome)
@@ -471,13 +414,6 @@ static bool everything_met(const struct tally *tally)
 
 /* ---- The whole run ---- */
 
-/* Says which case it was when a loader brings the program down, or never comes back. */
-static void on_crash(int signal_number)
-{
-    (void)signal_number;
-    _exit(write(STDOUT_FILENO, crash_notice, strlen(crash_notice)) < 0 ? 2 : 1);
-}
-
 /* The answer of a run with words chosen is that of the run without, but for its own refusals. */
 static bool watching_changed_nothing(const struct bench_case *bench_case, const struct outcome *watched,
                                      const struct outcome *proved)
@@ -517,9 +453,7 @@ static bool compare_case(struct bench_case *bench_case, struct tally *tally, uin
     bool is_same;
 
     make_case(bench_case, seed, number);
-    snprintf(crash_notice, sizeof crash_notice, "CRASH, or no end: seed %" PRIu64 ", case %" PRIu64 "\n",
-             seed, number);
-    alarm(CASE_SECONDS);
+    begin_case(seed, number);
     run_loader(bench_case, &plain, 0, &PLAIN, false);
     run_loader(bench_case, &proved, GUARD, &PROVED, false);
     count_case(tally, bench_case, plain.value);
@@ -529,6 +463,7 @@ static bool compare_case(struct bench_case *bench_case, struct tally *tally, uin
     is_same &= compare_watched(bench_case, tally, &proved);
     free_outcome(&plain);
     free_outcome(&proved);
+    end_case();
     if (!is_same) {
         print_case(bench_case);
         printf("DIFFERENCE: to see it again: compare 1 %" PRIu64 " %" PRIu64 "\n", seed, number);
@@ -540,14 +475,12 @@ int main(int argument_count, char **arguments)
 {
     static struct bench_case bench_case;
     static struct tally tally;
-    static const int crashes[] = {SIGSEGV, SIGBUS, SIGABRT, SIGILL, SIGFPE, SIGALRM};
     uint64_t count = argument_count > 1 ? strtoull(arguments[1], NULL, 0) : 200000;
     uint64_t seed = argument_count > 2 ? strtoull(arguments[2], NULL, 0) : 1;
     uint64_t first = argument_count > 3 ? strtoull(arguments[3], NULL, 0) : 0;
     clock_t begin = clock();
 
-    for (size_t index = 0; index < sizeof crashes / sizeof crashes[0]; index++)
-        signal(crashes[index], on_crash);
+    guard_calls();
     for (uint64_t number = first; number < first + count; number++)
         if (!compare_case(&bench_case, &tally, seed, number))
             return 1;

@@ -237,18 +237,24 @@ struct sections {
     size_t kept; /* how many of them a retry leaves */
 };
 
+/* Makes a list so long, or ends the program where there is no memory left. */
+static void *with_length(void *list, size_t length)
+{
+    list = realloc(list, length);
+    if (list == NULL) {
+        fprintf(stderr, "no memory left\n");
+        exit(2);
+    }
+    return list;
+}
+
 /* Makes room for one more in a list of things of some size. */
 static void *with_room(void *list, size_t count, size_t *room, size_t size)
 {
     if (count < *room)
         return list;
     *room = 2 * *room + 64;
-    list = realloc(list, *room * size);
-    if (list == NULL) {
-        fprintf(stderr, "no memory left\n");
-        exit(2);
-    }
-    return list;
+    return with_length(list, *room * size);
 }
 
 static uint64_t bytes_of(const struct sections *sections)
@@ -371,6 +377,8 @@ struct loader {
     uint32_t checksum;
     bool checksum_on;
     bool ended;
+    bool entered; /* ended by a Jump & Close */
+    uint32_t entry_address;
     unsigned windows_taken; /* by the range of the command at hand */
 };
 
@@ -593,6 +601,8 @@ static enum refusal jump_and_close(struct loader *loader, const uint32_t *argume
     if (loader->dialect == PLAIN_DM648 && !totals_are_right(&loader->sections, arguments[1], arguments[2]))
         return TOTALS_DIFFER;
     loader->ended = true;
+    loader->entered = true;
+    loader->entry_address = address;
     return ACCEPTED;
 }
 
@@ -964,10 +974,15 @@ static enum refusal sent_word(struct sent_session *session, uint32_t word, struc
     }
 }
 
-/* The bytes of a unit, on a line. */
-static unsigned unit_bytes(unsigned line)
+unsigned plain_unit_bytes(unsigned line)
 {
     return line == PLAIN_HALVES ? 2 : 1;
+}
+
+/* Reads a unit, the low byte of a half first. */
+static uint32_t read_unit(unsigned line, const uint8_t *bytes)
+{
+    return line == PLAIN_HALVES ? bytes[0] | (uint32_t)bytes[1] << 8 : bytes[0];
 }
 
 /* Takes one unit from the line, a byte or a half. */
@@ -981,14 +996,14 @@ static enum refusal sent_unit(struct sent_session *session, uint32_t unit, struc
         return SESSION_ENDED;
     if (!session->acknowledged && session->gathered_count == 0 && unit == (has_halves ? START_HALF : START_BYTE)) {
         session->started = true;
-        reply->count = unit_bytes(session->line);
+        reply->count = plain_unit_bytes(session->line);
         write_low_bytes(reply->bytes, has_halves ? HALF_ANSWER : BYTE_ANSWER, reply->count);
         return ACCEPTED;
     }
     if (!session->started)
         return ACCEPTED;
     session->gathered |= unit << (8 * session->gathered_count);
-    session->gathered_count += unit_bytes(session->line);
+    session->gathered_count += plain_unit_bytes(session->line);
     if (session->gathered_count < WORD_BYTES)
         return ACCEPTED;
     refusal = sent_word(session, session->gathered, reply);
@@ -1004,9 +1019,9 @@ static enum refusal sent_unit(struct sent_session *session, uint32_t unit, struc
 /* What is fed has to be whole units, at most so many, and the room has to hold all replies that they can have. */
 static bool call_is_right(unsigned line, size_t fed_length, size_t room_length)
 {
-    size_t units = fed_length / unit_bytes(line);
+    size_t units = fed_length / plain_unit_bytes(line);
 
-    if (fed_length % unit_bytes(line) != 0 || units > FED_LIMIT)
+    if (fed_length % plain_unit_bytes(line) != 0 || units > FED_LIMIT)
         return false;
     return room_length >= (line == PLAIN_HALVES ? 4 * units : GREETING_LENGTH + 2 * units);
 }
@@ -1023,8 +1038,7 @@ static enum refusal sent_opening(struct sent_session *session, const uint8_t *ma
     return call_is_right(session->line, fed_length, room_length) ? ACCEPTED : CALL_WRONG;
 }
 
-/* The greeting is for the line of bytes only. */
-static size_t greet(unsigned line, uint8_t *room)
+size_t plain_greeting(unsigned line, uint8_t *room)
 {
     if (line == PLAIN_HALVES)
         return 0;
@@ -1042,11 +1056,10 @@ static uint64_t session_on(unsigned line, unsigned dialect, const struct watch *
 
     if (first_refusal != ACCEPTED)
         return (uint64_t)first_refusal << 32;
-    count = greet(line, room);
-    for (size_t index = 0; index < fed_length; index += unit_bytes(line)) {
+    count = plain_greeting(line, room);
+    for (size_t index = 0; index < fed_length; index += plain_unit_bytes(line)) {
         struct reply reply;
-        uint32_t unit = line == PLAIN_HALVES ? fed[index] | (uint32_t)fed[index + 1] << 8 : fed[index];
-        enum refusal refusal = sent_unit(&session, unit, &reply);
+        enum refusal refusal = sent_unit(&session, read_unit(line, fed + index), &reply);
         if (first_refusal == ACCEPTED)
             first_refusal = refusal;
         for (unsigned place = 0; place < reply.count; place++)
@@ -1091,4 +1104,41 @@ uint64_t plain_bits_session(uint8_t line, uint8_t dialect, const uint8_t *map, s
         return (uint64_t)CALL_WRONG << 32;
     return session_on(line, dialect, &watch, map, map_length, memory, memory_length, fed, fed_length, room,
                       room_length);
+}
+
+/* ---- Sent mode, unit by unit ---- */
+
+plain_session *plain_session_open(uint8_t line, uint8_t dialect, const uint8_t *map, size_t map_length, uint8_t *memory,
+                                  size_t memory_length, uint8_t *refusal)
+{
+    plain_session *session = with_length(NULL, sizeof *session);
+
+    *session = (plain_session){.loader = {.dialect = dialect, .memory = memory}, .line = line};
+    *refusal = (uint8_t)sent_opening(session, map, map_length, memory_length, 0, GREETING_LENGTH);
+    if (*refusal == ACCEPTED)
+        return session;
+    plain_session_end(session);
+    return NULL;
+}
+
+unsigned plain_session_feed(plain_session *session, const uint8_t *unit, uint8_t *room, uint8_t *refusal)
+{
+    struct reply reply;
+
+    *refusal = (uint8_t)sent_unit(session, read_unit(session->line, unit), &reply);
+    memcpy(room, reply.bytes, reply.count);
+    return reply.count;
+}
+
+int plain_session_entered(const plain_session *session, uint32_t *address)
+{
+    if (session->loader.entered)
+        *address = session->loader.entry_address;
+    return session->loader.entered;
+}
+
+void plain_session_end(plain_session *session)
+{
+    end_loader(&session->loader);
+    free(session);
 }

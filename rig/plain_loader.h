@@ -46,4 +46,17 @@ uint64_t plain_bits_run(uint8_t dialect, const uint8_t *map, size_t map_length, 
                         size_t chosen_length, uint8_t *memory, size_t memory_length, uint8_t *numbers,
                         size_t numbers_length, const uint8_t *image, size_t image_length, uint8_t limit);
 
+/* A session of sent mode, unit by unit, for a host on the other end of the line. The opening is refused with 1 or 2, and there
+   is none then. A unit is lent as its bytes, and its reply goes to a room of eight; the count is given back. */
+typedef struct sent_session plain_session;
+plain_session *plain_session_open(uint8_t line, uint8_t dialect, const uint8_t *map, size_t map_length, uint8_t *memory,
+                                  size_t memory_length, uint8_t *refusal);
+unsigned plain_session_feed(plain_session *session, const uint8_t *unit, uint8_t *room, uint8_t *refusal);
+int plain_session_entered(const plain_session *session, uint32_t *address); /* the address where it has entered */
+void plain_session_end(plain_session *session);
+
+/* The bytes of a unit, and what is sent before the first one: BOOTME on the line of bytes, nothing on the other. */
+unsigned plain_unit_bytes(unsigned line);
+size_t plain_greeting(unsigned line, uint8_t *room);
+
 #endif

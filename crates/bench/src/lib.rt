@@ -1,4 +1,5 @@
 // The bench's entries for C: whole sessions on byte slices, answered by one number.
+pub mod hosts;
 pub mod registers;
 
 ghost use mathlib.Core.Path.{_≡_};

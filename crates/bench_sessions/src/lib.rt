@@ -332,7 +332,7 @@ fn watched_from(
 }
 
 // The line of a number: 0 bytes, any other halves.
-fn line_of(line: u8) -> Bus
+pub fn line_of(line: u8) -> Bus
     ensures { λ r. ⌜ r ≡ lineOf line ⌝ }
 {
     if line == 0 {

@@ -1,6 +1,7 @@
 pub mod BitsUniqueness
 pub mod FeedingUniqueness
 pub mod FlashUniqueness
+pub mod HostUniqueness
 pub mod MarkedExamples
 pub mod RegisterUniqueness
 pub mod TouchingExamples

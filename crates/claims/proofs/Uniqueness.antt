@@ -76,6 +76,7 @@ use Rattle.sent.proofs.Session.step.Reads as sent-step
 use Rattle.sent.proofs.Session.step_half.Reads as half-step
 use Rattle.sent.proofs.Session.step_at.Reads as step-at
 use Rattle.machine_answers.proofs.silent.Reads as silent
+use Rattle.machine_answers.proofs.acknowledgement.Reads as acknowledgement
 use Rattle.machine_answers.proofs.reply_word.Reads as reply_word
 use Rattle.machine_answers.proofs.moved.Reads as moved
 use Rattle.machine_answers.proofs.refuse.Reads as refuse
@@ -362,6 +363,9 @@ step-at-unique κs a r s e f = both-same
 -- machine_answers
 pub silent-unique : OneResult silent.Post
 silent-unique κs a r s e f = same
+
+pub acknowledgement-unique : OneResult acknowledgement.Post
+acknowledgement-unique κs a r s e f = same
 
 pub reply-word-unique : OneResult reply_word.Post
 reply-word-unique κs a r s e f = same

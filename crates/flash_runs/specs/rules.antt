@@ -1,2 +1,3 @@
 pub mod Entries
+pub mod Events
 pub mod Run

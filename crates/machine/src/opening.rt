@@ -2,7 +2,7 @@
 ghost use mathlib.Core.Path.{_≡_};
 ghost use Rattle.words.specs.rules.Choice.{pick};
 ghost use Rattle.machine.specs.rules.Machine.{begun, acknowledging};
-ghost use Rattle.machine_answers.specs.rules.Replies.{wordThen, acknowledged};
+ghost use Rattle.machine_answers.specs.rules.Replies.{wordThen};
 use machine_answers::Core;
 use machine_answers::Reply;
 use machine_answers::Taken;
@@ -48,20 +48,13 @@ fn reply_before(word: u32, reply: Reply) -> Reply
     }
 }
 
-// An opcode with the top byte of an acknowledgement.
-fn acknowledgement(opcode: u32) -> u32
-    ensures { λ r. ⌜ r ≡ acknowledged opcode ⌝ }
-{
-    0x5200_0000 + opcode % 0x0100_0000
-}
-
 // The answer to an opcode: where it is accepted the acknowledgement comes first.
 pub fn acknowledge(taken: Taken, opcode: u32) -> Taken
     ensures { λ r. ⌜ r ≡ acknowledging opcode taken ⌝ }
 {
     let refusal = taken.refusal;
     if refusal.code() == 0 {
-        let reply = reply_before(acknowledgement(opcode), taken.reply);
+        let reply = reply_before(machine_answers::acknowledgement(opcode), taken.reply);
         let mut next = taken;
         next.reply = reply;
         return next;

@@ -3,7 +3,7 @@ pub mod counts;
 
 ghost use mathlib.Core.Path.{_≡_};
 ghost use Rattle.machine_answers.specs.rules.Answers.{tallied, await, stop, refused, said, writing, after, entered};
-ghost use Rattle.machine_answers.specs.rules.Replies.{silence, oneWord, farewell};
+ghost use Rattle.machine_answers.specs.rules.Replies.{silence, oneWord, acknowledged, farewell};
 use commands::Done;
 use commands::Wrote;
 use ledger::Totals;
@@ -74,6 +74,13 @@ pub fn silent() -> Reply
         bytes: [0; 8],
         count: 0,
     }
+}
+
+// An opcode with the top byte of an acknowledgement.
+pub fn acknowledgement(opcode: u32) -> u32
+    ensures { λ r. ⌜ r ≡ acknowledged opcode ⌝ }
+{
+    0x5200_0000 + opcode % 0x0100_0000
 }
 
 // One word for the host.

@@ -9,7 +9,7 @@ use lib.ListN.{length}
 use Rattle.words.specs.rules.Bytes.{wordAt}
 use Rattle.words.specs.rules.Choice.{pick}
 use Rattle.opcodes.specs.rules.Answers.{codeOf, kindOf}
-use Rattle.opcodes.specs.rules.Opcodes.{lookedUp, byWriting}
+use Rattle.opcodes.specs.rules.Opcodes.{lookedUp}
 use Rattle.opcodes.specs.declared.Command.{Command}
 use Rattle.opcodes.specs.declared.Command.the-variants.{Load, Fill, BootTable, Enable, Disable, Request, StartOver, JumpAndClose, Ping, SequentialRead}
 use Rattle.opcodes.specs.declared.Event.the-variants.{Nothing}
@@ -23,17 +23,13 @@ use Rattle.ledger.specs.declared.Happening.{Happening}
 use Rattle.ledger.specs.declared.Happening.the-variants as happened
 use Rattle.ledger.specs.declared.Standing.{Standing}
 use Rattle.flash_session.specs.rules.Sessions.{countedOn}
-use Rattle.reading.specs.rules.Reading.{wordsFrom, argument, dataWords}
+use Rattle.reading.specs.rules.Reading.{wordsFrom, argument, dataWords, dataSize}
 use Rattle.flash_session.specs.declared.Called.{Called}
 use Rattle.flash_session.specs.declared.Session.{Session}
 
--- the data bytes of the command at the session's offset: a load's, by its size
-abbrev pub dataBytes : Command → Session → List ℕ → ℕ
-dataBytes command s image = byWriting command (argument image (s .offset) 1) 0 0 0
-
--- its data words
+-- the data words of the command at the session's offset
 abbrev pub dataWordsOf : Command → Session → List ℕ → ℕ
-dataWordsOf command s image = dataWords (dataBytes command s image)
+dataWordsOf command s image = dataWords (dataSize command image (s .offset))
 
 -- the argument words of what the table finds
 abbrev pub argumentWords : Found → ℕ

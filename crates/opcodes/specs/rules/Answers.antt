@@ -1,6 +1,7 @@
 -- The numbers of refusals, and the kinds and values of events.
 use Prim.Native.Nat.{ℕ}
 use mathlib.Core.Bool.{Bool}
+use mathlib.Core.List.{List, [], _∷_}
 use lib.Dec.{eqb}
 use Rattle.opcodes.specs.declared.Refusal.{Refusal}
 use Rattle.opcodes.specs.declared.Refusal.the-variants as refusal
@@ -28,6 +29,7 @@ codeOf refusal.TooWide = 16
 codeOf refusal.Totals = 17
 codeOf refusal.Overflow = 18
 codeOf refusal.Call = 19
+codeOf refusal.Tries = 20
 codeOf refusal.Length = 21
 codeOf refusal.Digit = 22
 codeOf refusal.Room = 23
@@ -49,3 +51,9 @@ abbrev pub valueOf : Event → ℕ
 valueOf event.Nothing = 0
 valueOf (event.Wait cycles) = cycles
 valueOf (event.Enter address) = address
+
+-- an event as a list of events: nothing is none
+abbrev pub told : Event → List Event
+told event.Nothing = []
+told (event.Wait cycles) = event.Wait cycles ∷ []
+told (event.Enter address) = event.Enter address ∷ []

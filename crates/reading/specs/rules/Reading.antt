@@ -6,7 +6,8 @@ use lib.Dec.{leb}
 use lib.ListN.{length}
 use Rattle.words.specs.rules.Bytes.{wordAt}
 use Rattle.words.specs.rules.Choice.{pick}
-use Rattle.opcodes.specs.rules.Opcodes.{lookedUp}
+use Rattle.opcodes.specs.rules.Opcodes.{lookedUp, byWriting}
+use Rattle.opcodes.specs.declared.Command.{Command}
 use Rattle.opcodes.specs.declared.Dialect.{Dialect}
 use Rattle.opcodes.specs.declared.Found.{Found}
 use Rattle.opcodes.specs.declared.Found.the-variants as found
@@ -34,6 +35,14 @@ argument image offset i = wordAt image (offset + 4 + 4 * i)
 -- the words of a load's data: its bytes padded to whole words
 abbrev pub dataWords : ℕ → ℕ
 dataWords size = (size + 3) / 4
+
+-- the data bytes of the command at an offset: a load's, by its size word
+abbrev pub dataSize : Command → List ℕ → ℕ → ℕ
+dataSize command image offset = byWriting command (argument image offset 1) 0 0 0
+
+-- where a command with so many argument words ends with its data, its opcode being at an offset
+abbrev pub pastData : Command → ℕ → List ℕ → ℕ → ℕ
+pastData command words image offset = pastWords offset words + 4 * dataWords (dataSize command image offset)
 
 -- by what the table says of the opcode: 6, 15, 5 for the argument words; the opcode was fetched, and the argument words that are there
 abbrev pub readAs : List ℕ → ℕ → Found → Read

@@ -4,7 +4,7 @@ use mathlib.Core.List.{List, [], _∷_, _++_}
 use mathlib.Core.Path.{_≡_}
 use lib.Dec.{eqb}
 use Rattle.words.specs.rules.Choice.{pick}
-use Rattle.opcodes.specs.rules.Answers.{codeOf}
+use Rattle.opcodes.specs.rules.Answers.{codeOf, told}
 use Rattle.opcodes.specs.declared.Event.{Event}
 use Rattle.opcodes.specs.declared.Refusal.{Refusal}
 use Rattle.opcodes.specs.declared.Refusal.the-variants.{None}
@@ -61,6 +61,11 @@ answers bus x (u ∷ us) = heard bus x u ∷ answers bus (next bus x u) us
 unfoldable pub replied : List Heard → List ℕ
 replied [] = []
 replied (h ∷ hs) = sentBytes (h .reply) ++ replied hs
+
+-- the events that are heard, in order
+unfoldable pub eventsHeard : List Heard → List Event
+eventsHeard [] = []
+eventsHeard (h ∷ hs) = told (h .event) ++ eventsHeard hs
 
 -- the first of two codes that is not 0
 unfoldable pub firstOf : ℕ → ℕ → ℕ

@@ -1,0 +1,4 @@
+pub mod Calls
+pub mod Laying
+pub mod Outgoing
+pub mod RoundTrip

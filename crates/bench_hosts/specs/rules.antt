@@ -1,0 +1,2 @@
+pub mod HostBytes
+pub mod HostCalls

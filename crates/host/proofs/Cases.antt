@@ -1,0 +1,41 @@
+-- A part of the image that is there, and a word that its bytes make again.
+use Prim.Native.Nat.{ℕ, _+_, _*_, _/_, _%_, _^_, _<_, _≤_}
+use mathlib.Core.Bool.{true}
+use mathlib.Core.List.{List, [], _∷_}
+use mathlib.Core.Path.{_≡_, ap, _∙_}
+use native.Mathlib.Omega.{arith}
+use lib.Dec.{leb}
+use lib.ListN.{length}
+use borrow.Author.Tests.{leb-true}
+use Rattle.words.specs.rules.Bits.{join}
+use Rattle.words.specs.rules.Bytes.{byte, number}
+use Rattle.words.proofs.Choice.{both}
+use Rattle.host.specs.rules.Sendings.{isPart}
+
+-- a part that is there begins before its end, which is in the image
+pub is-there : (image : List ℕ) (from to : ℕ) → isPart image from to ≡ true → (from ≤ to) × (to ≤ length image)
+unfolding isPart
+is-there image from to e =
+    let two = both (leb from to) (leb to (length image)) e in
+    (leb-true from to (two .0), leb-true to (length image) (two .1))
+
+-- the number of a word's bytes is the word: from each byte on it is what lies above the bytes below
+pub word-again : (w : ℕ) → w < 2 ^ 32 → number (byte w 0 ∷ byte w 1 ∷ byte w 2 ∷ byte w 3 ∷ []) ≡ w
+unfolding number join byte
+word-again w h =
+    ap (λ (rest : ℕ). rest * 2 ^ 8 + w / 2 ^ (8 * 0) % 256 % 2 ^ 8)
+    (ap (λ (rest : ℕ). rest * 2 ^ 8 + w / 2 ^ (8 * 1) % 256 % 2 ^ 8)
+    (ap (λ (rest : ℕ). rest * 2 ^ 8 + w / 2 ^ (8 * 2) % 256 % 2 ^ 8) fourth ∙ third) ∙ second)
+    ∙ first
+  where
+    fourth : 0 * 2 ^ 8 + w / 2 ^ (8 * 3) % 256 % 2 ^ 8 ≡ w / 2 ^ 24
+    fourth = omega arith
+
+    third : w / 2 ^ 24 * 2 ^ 8 + w / 2 ^ (8 * 2) % 256 % 2 ^ 8 ≡ w / 2 ^ 16
+    third = omega arith
+
+    second : w / 2 ^ 16 * 2 ^ 8 + w / 2 ^ (8 * 1) % 256 % 2 ^ 8 ≡ w / 2 ^ 8
+    second = omega arith
+
+    first : w / 2 ^ 8 * 2 ^ 8 + w / 2 ^ (8 * 0) % 256 % 2 ^ 8 ≡ w
+    first = omega arith

@@ -1,0 +1,28 @@
+-- `host::greetings::start` meets its contract: the right answer is tested as in the definition.
+use borrow.Author.Needs.{needs}
+use mathlib.Core.Path.{sym, _∙_}
+use Rattle.words.proofs.Choice.{chosen, passed}
+use Rattle.host.specs.rules.Turn.{answeredBy}
+use Rattle.host.proofs.greetings.start.Statement.{statement}
+use Rattle.host.proofs.greetings.start.Tie as tie
+
+ends-with-start-requires : tie.Need-ends-with-start-requires
+ends-with-start-requires c κs = search needs
+
+enter-requires : tie.Need-enter-requires
+enter-requires c κs = search needs
+
+returns : tie.Need-returns
+unfolding answeredBy
+returns c = c .enter .ensures ∙ sym (chosen _ _ _ (sym (c .before .before .ends-with-start .ensures) ∙ c .before .if1 .taken))
+
+again-requires : tie.Need-again-requires
+again-requires c κs = search needs
+
+returns-2 : tie.Need-returns-2
+unfolding answeredBy
+returns-2 c = c .again .ensures ∙ sym (passed _ _ _ (sym (c .before .before .ends-with-start .ensures) ∙ c .before .if1 .left))
+
+pub start-spec : {M : Type 1} → statement M
+start-spec =
+    tie.close (tie.spec ends-with-start-requires enter-requires returns again-requires returns-2)

@@ -1,0 +1,5 @@
+pub mod Ear
+pub mod Ends
+pub mod Hosts
+pub mod Sendings
+pub mod Turn

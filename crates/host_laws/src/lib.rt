@@ -1,0 +1,1 @@
+// What holds of every turn of a host: there is no code here.

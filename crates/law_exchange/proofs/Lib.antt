@@ -1,0 +1,12 @@
+pub mod Beginning
+pub mod Course
+pub mod Entering
+pub mod Exchange
+pub mod Following
+pub mod Hearing
+pub mod Levels
+pub mod Scenes
+pub mod Silence
+pub mod Standing
+pub mod Stopping
+pub mod Worked

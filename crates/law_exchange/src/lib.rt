@@ -1,0 +1,1 @@
+// Facts about the exchange of host and loader: there is no code here.

@@ -1,0 +1,10 @@
+pub mod Stretch
+pub mod Rows
+pub mod Checksum
+pub mod Words
+pub mod Calls
+pub mod Answers
+pub mod Commands
+pub mod Loads
+pub mod Requests
+pub mod Line

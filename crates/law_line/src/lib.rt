@@ -1,0 +1,1 @@
+// Facts about what a loader does with an image's units: there is no code here.
