@@ -1,4 +1,5 @@
-/* A host in plain C, written from the papers alone. Nothing here is shared with the proved one. */
+/* A host in plain C, written from the papers alone. No code is shared with the proved one. Afterwards four points that the papers leave open were
+   set here as docs/DECISIONS.md has them, by somebody who knew the proved rules. */
 #include "plain_host.h"
 
 #include "plain_loader.h"
