@@ -14,8 +14,8 @@ use Rattle.words.proofs.Choice.{chosen, passed}
 use Rattle.words.proofs.Units.{write-done}
 use Rattle.opcodes.specs.declared.Command.{Command}
 use Rattle.opcodes.specs.declared.Command.the-variants.{SequentialRead}
-use Rattle.host.specs.declared.Host.{Host}
-use Rattle.host.specs.declared.Wait.the-variants.{Closing}
+use Rattle.host_answers.specs.declared.Host.{Host}
+use Rattle.host_answers.specs.declared.Wait.the-variants.{Closing}
 use Rattle.bench_hosts.specs.rules.HostBytes.{hostBytes, commandOf, waitOf, hostWords, hostMarks, writtenHost, hostLaid}
 
 -- past the numbers that are named

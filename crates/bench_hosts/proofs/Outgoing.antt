@@ -9,12 +9,12 @@ use Rattle.flash_session.proofs.Lengths.{image-small}
 use Rattle.host_laws.specs.claims.Looks.{repeated}
 use Rattle.host_laws.specs.claims.Outgoing.{Begins, greeted, started, pinged, echoed, echoed-last, met, Words, Moves, passed, went, matched, sought}
 use Rattle.host_laws.specs.claims.Outgoing.{Next, begins, moves, starts-over, closed, closes, done}
-use Rattle.host.specs.declared.Host.{Host}
-use Rattle.host.specs.declared.Sending.{Sending}
-use Rattle.host.specs.declared.Sending.the-variants.{Stretch}
-use Rattle.host.specs.declared.Turned.{Turned}
-use Rattle.host.specs.declared.Wait.{Wait}
-use Rattle.host.specs.declared.Wait.the-variants as wait
+use Rattle.host_answers.specs.declared.Host.{Host}
+use Rattle.host_answers.specs.declared.Sending.{Sending}
+use Rattle.host_answers.specs.declared.Sending.the-variants.{Stretch}
+use Rattle.host_answers.specs.declared.Turned.{Turned}
+use Rattle.host_answers.specs.declared.Wait.{Wait}
+use Rattle.host_answers.specs.declared.Wait.the-variants as wait
 use Rattle.host_laws.proofs.TurnCases.{Looked, twenty, goes-on, goes, refuses, no-retry, no-seek, Way, over, another, looks, way}
 use Rattle.bench_hosts.specs.claims.Outgoing.{InImage, EachInImage}
 

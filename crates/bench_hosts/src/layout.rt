@@ -23,10 +23,10 @@ ghost use Rattle.bench_hosts.specs.rules.HostBytes.{
   readEar,
   readHost,
 };
-use host::Ear;
-use host::Host;
-use host::Stage;
-use host::Wait;
+use host_answers::Host;
+use host_answers::Stage;
+use host_answers::Wait;
+use host_ear::Ear;
 use opcodes::Command;
 use opcodes::Dialect;
 use sent::Bus;

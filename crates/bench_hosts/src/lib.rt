@@ -19,9 +19,9 @@ ghost use Rattle.bench_hosts.specs.rules.HostCalls.{
 };
 ghost use Rattle.bench_hosts.specs.claims.Outgoing.{InImage};
 use exchange::Exchanged;
-use host::Host;
-use host::Sending;
-use host::Turned;
+use host_answers::Host;
+use host_answers::Sending;
+use host_answers::Turned;
 use opcodes::Event;
 use opcodes::Refusal;
 
@@ -112,7 +112,7 @@ pub fn turn_host(host: &mut [u8], image: &[u8]) -> u64
         return refuse(Refusal::Call);
     }
     let standing = layout::read_host(host);
-    let turned = standing.turn(image);
+    let turned = host::turn(standing, image);
     layout::write_host(host, turned.host);
     turn_value(turned)
 }

@@ -2,6 +2,7 @@
 -- so do the memories at exit.
 use denote.Ref.{now}
 use Rattle.flash_session.proofs.is_length.Reads as is_length
+use Rattle.flash_session.proofs.is_image.Reads as is_image
 use Rattle.flash_session.proofs.Session.«open».Reads as opening
 use Rattle.flash_session.proofs.Session.open_numbering.Reads as numbering
 use Rattle.flash_session.proofs.answers.keep.Reads as keep
@@ -24,6 +25,9 @@ use Rattle.claims.proofs.Uniqueness.{OneResult, OneResultAndMemory, sam
 -- the session
 pub is-length-unique : OneResult is_length.Post
 is-length-unique κs a r s e f = same
+
+pub is-image-unique : OneResult is_image.Post
+is-image-unique κs a r s e f = same
 
 pub flash-open-unique : OneResult opening.Post
 flash-open-unique κs a r s e f = same

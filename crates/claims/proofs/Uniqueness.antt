@@ -41,6 +41,8 @@ use Rattle.reading.proofs.read_at.Reads as read_at
 use Rattle.reading.proofs.argument_at.Reads as argument_at
 use Rattle.reading.proofs.data_words.Reads as words-of-data
 use Rattle.reading.proofs.has_data.Reads as data-there
+use Rattle.reading.proofs.data_size.Reads as size-of-data
+use Rattle.reading.proofs.end_of.Reads as end-of-command
 use Rattle.commands.proofs.bar.Reads as bar
 use Rattle.commands.proofs.judge_load.Reads as judge_load
 use Rattle.commands.proofs.judge_fill.Reads as judge_fill
@@ -252,6 +254,12 @@ data-words-unique κs a r s e f = same
 
 pub has-data-unique : OneResult data-there.Post
 has-data-unique κs a r s e f = same
+
+pub data-size-unique : OneResult size-of-data.Post
+data-size-unique κs a r s e f = same
+
+pub end-of-unique : OneResult end-of-command.Post
+end-of-unique κs a r s e f = same
 
 -- commands
 pub bar-unique : OneResult bar.Post

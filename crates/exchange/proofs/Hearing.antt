@@ -21,9 +21,9 @@ use Rattle.sent.specs.declared.Bus.{Bus}
 use Rattle.sent.specs.declared.Bus.the-variants.{Bytes, Halves}
 use Rattle.sent.specs.declared.Session.{Session}
 use Rattle.sent.proofs.Units.{halves-count}
-use Rattle.host.specs.rules.Hosts.{heardAll}
-use Rattle.host.specs.rules.Hosts as hosts
-use Rattle.host.specs.declared.Host.{Host}
+use Rattle.host_answers.specs.rules.Hosts.{heardAll}
+use Rattle.host_answers.specs.rules.Hosts as hosts
+use Rattle.host_answers.specs.declared.Host.{Host}
 use Rattle.exchange.specs.rules.Exchange.{butEnded, firstButEnded}
 use Rattle.exchange.specs.rules.Standing.{lastAfter, noted, standingFed, memoryFed}
 use Rattle.exchange.specs.declared.Standing.{Standing}

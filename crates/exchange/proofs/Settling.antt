@@ -18,14 +18,15 @@ use Rattle.flash_session.specs.rules.Opening.{goodLength}
 use Rattle.sent.specs.rules.Feeding.{State, fed, answers, replied, eventsHeard}
 use Rattle.sent.specs.declared.Bus.{Bus}
 use Rattle.sent.specs.declared.Session.{Session}
-use Rattle.host.specs.rules.Ends.{mostTurns}
-use Rattle.host.specs.rules.Hosts.{heardAll, openedBy}
-use Rattle.host.specs.rules.Hosts as hosts
-use Rattle.host.specs.rules.Turn.{unchanged, turned}
+use Rattle.host_answers.specs.rules.Ends.{mostTurns}
+use Rattle.host_answers.specs.rules.Hosts.{heardAll, openedBy}
+use Rattle.host_answers.specs.rules.Hosts as hosts
+use Rattle.host_answers.specs.rules.Answers.{unchanged}
+use Rattle.host.specs.rules.Turn.{turned}
 use Rattle.host_laws.specs.claims.Looks.{isLent, isTurn}
-use Rattle.host.specs.declared.Host.{Host}
-use Rattle.host.specs.declared.Opened.{Opened}
-use Rattle.host.specs.declared.Turned.{Turned}
+use Rattle.host_answers.specs.declared.Host.{Host}
+use Rattle.host_answers.specs.declared.Opened.{Opened}
+use Rattle.host_answers.specs.declared.Turned.{Turned}
 use Rattle.host_laws.proofs.RefusalLaws.{keeps-settings}
 use Rattle.host_laws.proofs.FewerLaws.{each-turn-counts}
 use Rattle.exchange.specs.rules.Exchange.{Talk, unitsSent, firstButEnded, after, onward, talked, meeting, exchanged}

@@ -6,12 +6,12 @@ ghost use Rattle.opcodes.specs.rules.Answers.{codeOf, told};
 ghost use Rattle.machine_answers.specs.rules.Replies.{sentBytes};
 ghost use Rattle.sent.specs.rules.Bus.{startUnit, unitsOf, unitsFed};
 ghost use Rattle.sent.specs.rules.Feeding.{firstOf};
-ghost use Rattle.host.specs.rules.Hosts.{heardAll};
+ghost use Rattle.host_answers.specs.rules.Hosts.{heardAll};
 ghost use Rattle.exchange.specs.rules.Exchange.{unitsSent, butEnded};
 ghost use Rattle.exchange.specs.rules.Standing.{lastAfter, noted, standingFed, memoryFed};
 use crate::Standing;
-use host::Host;
-use host::Sending;
+use host_answers::Host;
+use host_answers::Sending;
 use machine_answers::Reply;
 use opcodes::Event;
 use opcodes::Refusal;
@@ -152,6 +152,11 @@ pub fn send(
         Sending::Nothing => standing,
         Sending::Start => send_start(bus, standing, memory),
         Sending::Word(word) => send_word(bus, standing, memory, word),
-        Sending::Stretch(_, _) => feed(bus, standing, memory, host::stretch(sending, image)),
+        Sending::Stretch(_, _) => feed(
+            bus,
+            standing,
+            memory,
+            host_answers::stretch(sending, image),
+        ),
     }
 }

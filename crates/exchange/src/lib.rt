@@ -5,8 +5,8 @@ ghost use mathlib.Core.Path.{_≡_};
 ghost use mathlib.Core.List.{[]};
 ghost use Rattle.exchange.specs.rules.Exchange.{meeting, exchanged};
 ghost use Rattle.exchange.specs.rules.Standing.{outcomeOf, standingOf, hostTurned, standingOnward, memoryOnward};
-use host::Host;
-use host::Turned;
+use host_answers::Host;
+use host_answers::Turned;
 use opcodes::Dialect;
 use opcodes::Event;
 use sent::Bus;
@@ -80,7 +80,7 @@ fn go_on(standing: Standing, memory: &mut [u8], image: &[u8]) -> Standing
 {
     let host = standing.host;
     let bus = host.bus;
-    let turned = host.turn(image);
+    let turned = host::turn(host, image);
     let sending = turned.sending;
     feeding::send(bus, sending, take_turn(standing, turned), memory, image)
 }

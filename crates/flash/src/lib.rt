@@ -1,11 +1,8 @@
 // Flash mode: the script is a lent image, one command a call.
-ghost use mathlib.Core.Bool.{_&&_};
 ghost use mathlib.Core.Path.{_≡_};
 ghost use Prim.Native.Nat.{_+_, _*_, _^_, _≤_, _<_};
-ghost use lib.Dec.{eqb};
 ghost use lib.ListN.{length};
 ghost use Rattle.reading.specs.rules.Reading.{dataWords};
-ghost use Rattle.flash_session.specs.rules.Opening.{goodLength};
 ghost use Rattle.flash.specs.rules.Step.{loadAnswer, loadAt, loadOf, performed, stepOf};
 use commands::Judged;
 use flash_session::Called;
@@ -29,7 +26,7 @@ pub fn step(session: Session, memory: &mut [u8], image: &[u8]) -> Called
     if memory.len() != windows::sum(windows) {
         return answers::keep(Refusal::Memory, session);
     }
-    if !is_image(image.len(), session.length as usize) {
+    if !flash_session::is_image(image.len(), session.length as usize) {
         return answers::keep(Refusal::Image, session);
     }
     let dialect = session.dialect;
@@ -47,16 +44,6 @@ pub fn step(session: Session, memory: &mut [u8], image: &[u8]) -> Called
             )
         }
     }
-}
-
-// Is this the length of an image, and that of the opening?
-fn is_image(n: usize, length: usize) -> bool
-    ensures { λ r. ⌜ r ≡ (goodLength n && eqb n length) ⌝ }
-{
-    if flash_session::is_length(n) {
-        return n == length;
-    }
-    false
 }
 
 // The answer to a load that is accepted at a place, with the checksum that its data leave.

@@ -2,7 +2,9 @@
 pub mod answers;
 mod opening;
 
+ghost use mathlib.Core.Bool.{_&&_};
 ghost use mathlib.Core.Path.{_≡_};
+ghost use lib.Dec.{eqb};
 ghost use Rattle.flash_session.specs.rules.Opening.{goodLength, openedBy, numberingFrom};
 use commands::Wrote;
 use ledger::Totals;
@@ -101,4 +103,14 @@ pub fn is_length(n: usize) -> bool
         return false;
     }
     n <= Session::LONGEST
+}
+
+// Is this the length of an image, and that of the opening?
+pub fn is_image(n: usize, length: usize) -> bool
+    ensures { λ r. ⌜ r ≡ (goodLength n && eqb n length) ⌝ }
+{
+    if is_length(n) {
+        return n == length;
+    }
+    false
 }

@@ -1,12 +1,11 @@
 // The waits before the first command: BOOTME, the answer to the start unit, Ping and its echoes.
 ghost use mathlib.Core.Path.{_≡_};
 ghost use Rattle.host.specs.rules.Turn.{inWait};
-use crate::Host;
-use crate::Turned;
-use crate::Wait;
-use crate::answers;
-use crate::hearing;
-use crate::sendings;
+use host_answers::Host;
+use host_answers::Turned;
+use host_answers::Wait;
+use host_answers::answers;
+use host_answers::sendings;
 use opcodes::Refusal;
 
 // BOOTME is waited for.
@@ -15,7 +14,7 @@ pub fn greeting(host: Host, image: &[u8]) -> Turned
 {
     let heard = host.ear;
     let bus = host.bus;
-    if hearing::ends_with_greeting(heard, bus) {
+    if host_ear::ends_with_greeting(heard, bus) {
         return answers::enter(Wait::Start, host, image);
     }
     answers::again(host, image)
@@ -27,7 +26,7 @@ pub fn start(host: Host, image: &[u8]) -> Turned
 {
     let heard = host.ear;
     let bus = host.bus;
-    if hearing::ends_with_start(heard, bus) {
+    if host_ear::ends_with_start(heard, bus) {
         return answers::enter(Wait::Ping, host, image);
     }
     answers::again(host, image)
@@ -38,7 +37,7 @@ pub fn ping(host: Host, image: &[u8]) -> Turned
     ensures { λ r. ⌜ r ≡ inWait Wait.Ping host (now (image .entry)) ⌝ }
 {
     let heard = host.ear;
-    if hearing::acknowledges(heard, sendings::PING) {
+    if host_ear::acknowledges(heard, sendings::PING) {
         return answers::enter(Wait::Echo(0), host, image);
     }
     answers::again(host, image)
@@ -52,7 +51,7 @@ pub fn echo(host: Host, image: &[u8], k: u32) -> Turned
     if heard.count < 4 {
         return answers::again(host, image);
     }
-    if hearing::newest_word(heard) != sendings::echo_of(host, k) {
+    if host_ear::newest_word(heard) != sendings::echo_of(host, k) {
         return answers::refuse(Refusal::Tries, host);
     }
     if k < host.pings {

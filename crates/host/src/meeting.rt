@@ -2,42 +2,23 @@
 ghost use mathlib.Core.Path.{_≡_};
 ghost use Prim.Native.Nat.{_≤_};
 ghost use lib.ListN.{length};
-ghost use Rattle.reading.specs.rules.Reading.{dataSize, pastData};
 ghost use Rattle.reading.specs.declared.Read.{Read};
 ghost use Rattle.host.specs.rules.Turn.{metTo, met, inWait};
-use crate::Host;
-use crate::Role;
-use crate::Sending;
-use crate::Turned;
-use crate::Wait;
-use crate::answers;
+use host_answers::Host;
+use host_answers::Sending;
+use host_answers::Turned;
+use host_answers::Wait;
+use host_answers::answers;
+use host_commands::Role;
 use opcodes::Command;
 use opcodes::Refusal;
 use reading::Read;
-
-// The data bytes of the command at an offset: a load's, by its size word.
-fn data_size(command: Command, image: &[u8], offset: u32) -> u32
-    ensures { λ r. ⌜ r ≡ dataSize command (now (image .entry)) offset ⌝ }
-{
-    match command {
-        Command::Load => reading::argument_at(image, offset, 1),
-        _ => 0,
-    }
-}
-
-// Where a command with so many argument words ends with its data.
-fn end_of(command: Command, words: u32, image: &[u8], offset: u32) -> usize
-    ensures { λ r. ⌜ r ≡ pastData command words (now (image .entry)) offset ⌝ }
-{
-    let data = reading::data_words(data_size(command, image, offset));
-    (offset as usize) + 4 * (1 + (words as usize)) + 4 * (data as usize)
-}
 
 // A command whose words are there, up to an end: a Sequential Read is passed over, of any other the opcode goes out.
 fn meet_to(host: Host, image: &[u8], command: Command, end: u32) -> Turned
     ensures { λ r. ⌜ r ≡ metTo host (now (image .entry)) command end ⌝ }
 {
-    let role = crate::role_of(command);
+    let role = host_commands::role_of(command);
     match role {
         Role::Passed => answers::send(Sending::Nothing, answers::go_to(host, end)),
         _ => answers::enter(Wait::Opcode(command, end), host, image),
@@ -49,7 +30,7 @@ fn meet_whole(host: Host, image: &[u8], command: Command, words: u32) -> Turned
     requires { ⌜ length (now image) ≤ 65536 ⌝ }
     ensures { λ r. ⌜ r ≡ met host (now (image .entry)) (Read.Whole command words) ⌝ }
 {
-    let end = end_of(command, words, image, host.offset);
+    let end = reading::end_of(command, words, image, host.offset);
     if image.len() < end {
         return answers::refuse(Refusal::Missing, host);
     }

@@ -17,16 +17,16 @@ use Rattle.opcodes.specs.declared.Refusal.the-variants as refusal
 use Rattle.sent.specs.declared.Bus.{Bus}
 use Rattle.commands.specs.rules.Commands.{multiple}
 use Rattle.flash_session.specs.rules.Opening.{goodLength}
-use Rattle.host.specs.rules.Ends.{turnsIn, mostTurns}
-use Rattle.host.specs.rules.Hosts.{heard, heardAll, atStart, refusedBy, openedBy}
+use Rattle.host_answers.specs.rules.Ends.{turnsIn, mostTurns}
+use Rattle.host_answers.specs.rules.Hosts.{heard, heardAll, atStart, refusedBy, openedBy}
 use Rattle.host.specs.rules.Turn.{turned}
 use Rattle.host_laws.specs.claims.Looks.{isLent, isTurn}
 use Rattle.host_laws.specs.claims.Outgoing.{Awaits}
 use Rattle.host_laws.specs.claims.Turns.{turnsOf, HostEnds, turnsAllowed, Runs, OpenedHostEnds}
-use Rattle.host.specs.declared.Host.{Host}
-use Rattle.host.specs.declared.Opened.{Opened}
-use Rattle.host.specs.declared.Turned.{Turned}
-use Rattle.host.specs.declared.Wait.the-variants as wait
+use Rattle.host_answers.specs.declared.Host.{Host}
+use Rattle.host_answers.specs.declared.Opened.{Opened}
+use Rattle.host_answers.specs.declared.Turned.{Turned}
+use Rattle.host_answers.specs.declared.Wait.the-variants as wait
 use Rattle.host_laws.proofs.OpeningLaws.{heard-ended, stays-ended}
 use Rattle.host_laws.proofs.OutLaws.{awaits-what-stands}
 use Rattle.host_laws.proofs.RefusalLaws.{keeps-settings}

@@ -11,17 +11,17 @@ use borrow.Author.Tests.{eqb-true}
 use Rattle.words.specs.rules.Choice.{pick}
 use Rattle.words.proofs.Choice.{both, passed}
 use Rattle.flash_session.specs.rules.Opening.{goodLength}
-use Rattle.host.specs.rules.Ends.{waitTurns, commandTurns, turnsIn, mostTurns}
-use Rattle.host.specs.rules.Hosts.{trying, heard, heardAll}
+use Rattle.host_answers.specs.rules.Ends.{waitTurns, commandTurns, turnsIn, mostTurns}
+use Rattle.host_answers.specs.rules.Hosts.{trying, heard, heardAll}
 use Rattle.host_laws.specs.claims.Looks.{isTurn, rightAnswer}
 use Rattle.host_laws.specs.claims.Outgoing.{Begins, Moves, Next, begins, moves, starts-over, closed, closes, done, greeted, started, pinged, echoed}
 use Rattle.host_laws.specs.claims.Outgoing.{echoed-last, met, passed as passed-over, went, matched, sought, into, onFrom}
 use Rattle.host_laws.specs.claims.Turns.{EachTurnCounts}
-use Rattle.host.specs.declared.Host.{Host}
-use Rattle.host.specs.declared.Sending.{Sending}
-use Rattle.host.specs.declared.Turned.{Turned}
-use Rattle.host.specs.declared.Wait.{Wait}
-use Rattle.host.specs.declared.Wait.the-variants as wait
+use Rattle.host_answers.specs.declared.Host.{Host}
+use Rattle.host_answers.specs.declared.Sending.{Sending}
+use Rattle.host_answers.specs.declared.Turned.{Turned}
+use Rattle.host_answers.specs.declared.Wait.{Wait}
+use Rattle.host_answers.specs.declared.Wait.the-variants as wait
 use Rattle.host_laws.proofs.TurnCases.{Looked, twenty, goes-on, goes, refuses, no-retry, no-seek, Way, over, another, looks, way}
 
 -- more by so many is so many times more

@@ -1,5 +1,6 @@
 pub mod EndLaws
 pub mod FewerLaws
+pub mod HearingLaws
 pub mod OpeningLaws
 pub mod OutLaws
 pub mod RefusalLaws

@@ -12,11 +12,11 @@ use Rattle.opcodes.specs.declared.Refusal.{Refusal}
 use Rattle.opcodes.specs.declared.Refusal.the-variants as refusal
 use Rattle.flash_session.specs.rules.Opening.{goodLength}
 use Rattle.sent.specs.declared.Bus.{Bus}
-use Rattle.host.specs.rules.Hosts.{heard, heardAll, refusedBy, openedBy}
+use Rattle.host_answers.specs.rules.Hosts.{heard, heardAll, refusedBy, openedBy}
 use Rattle.host.specs.rules.Turn.{turned}
 use Rattle.host_laws.specs.claims.Opening.{hasMagic, inRange, OpeningCodes, StaysEnded, Opening, EveryOpening}
-use Rattle.host.specs.declared.Host.{Host}
-use Rattle.host.specs.declared.Opened.{Opened}
+use Rattle.host_answers.specs.declared.Host.{Host}
+use Rattle.host_answers.specs.declared.Opened.{Opened}
 
 -- hearing ends nothing
 pub heard-ended : (h : Host) (bytes : List ℕ) → heardAll h bytes .ended ≡ h .ended

@@ -12,11 +12,11 @@ use Rattle.host_laws.specs.claims.Outgoing.{Begins, Next, begins, moves,
 use Rattle.host_laws.specs.claims.Outgoing.{greeted, started, pinged, echoed, echoed-last, met}
 use Rattle.host_laws.specs.claims.Outgoing.{into, WhatFollows, RepeatsWhatBegan, GoesOut, nothing, again, next, WhatGoesOut}
 use Rattle.host_laws.specs.claims.Outgoing.{AwaitsIn, Awaits, AwaitsWhatStands}
-use Rattle.host.specs.declared.Host.{Host}
-use Rattle.host.specs.declared.Sending.{Sending}
-use Rattle.host.specs.declared.Sending.the-variants.{Nothing}
-use Rattle.host.specs.declared.Turned.{Turned}
-use Rattle.host.specs.declared.Wait.{Wait}
+use Rattle.host_answers.specs.declared.Host.{Host}
+use Rattle.host_answers.specs.declared.Sending.{Sending}
+use Rattle.host_answers.specs.declared.Sending.the-variants.{Nothing}
+use Rattle.host_answers.specs.declared.Turned.{Turned}
+use Rattle.host_answers.specs.declared.Wait.{Wait}
 use Rattle.host_laws.proofs.TurnCases.{Looked, twenty, goes-on, goes, refuses, no-retry, no-seek, Way, over, another, looks, way}
 
 module _ {h : Host} {image : List ℕ} where

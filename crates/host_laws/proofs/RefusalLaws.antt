@@ -16,18 +16,19 @@ use Rattle.opcodes.specs.declared.Refusal.the-variants as refusal
 use Rattle.reading.specs.rules.Reading.{pastData, readAt}
 use Rattle.reading.specs.declared.Read.{Read}
 use Rattle.reading.specs.declared.Read.the-variants as read
-use Rattle.host.specs.rules.Hosts.{changed}
-use Rattle.host.specs.rules.Turn.{unchanged, refused, met, metTo, inWait, turned}
+use Rattle.host_answers.specs.rules.Hosts.{changed}
+use Rattle.host_answers.specs.rules.Answers.{unchanged, refused}
+use Rattle.host.specs.rules.Turn.{met, metTo, inWait, turned}
 use Rattle.host_laws.specs.claims.Looks.{isLent}
 use Rattle.host_laws.specs.claims.Outgoing.{Next, begins, moves, starts-over, closed, closes, done}
 use Rattle.host_laws.specs.claims.Refusals.{SameSettings, KeepsSettings, spares, Refuses, RefusedSendsNothing, FirstOfAll, JudgedFirst}
 use Rattle.host_laws.specs.claims.Refusals.{metWith, JudgedBeforeTheOpcode}
-use Rattle.host.specs.declared.Ear.{Ear}
-use Rattle.host.specs.declared.Host.{Host}
-use Rattle.host.specs.declared.Sending.{Sending}
-use Rattle.host.specs.declared.Turned.{Turned}
-use Rattle.host.specs.declared.Wait.{Wait}
-use Rattle.host.specs.declared.Wait.the-variants as wait
+use Rattle.host_ear.specs.declared.Ear.{Ear}
+use Rattle.host_answers.specs.declared.Host.{Host}
+use Rattle.host_answers.specs.declared.Sending.{Sending}
+use Rattle.host_answers.specs.declared.Turned.{Turned}
+use Rattle.host_answers.specs.declared.Wait.{Wait}
+use Rattle.host_answers.specs.declared.Wait.the-variants as wait
 use Rattle.host_laws.proofs.TurnCases.{Looked, twenty, goes-on, goes, refuses, no-retry, no-seek, Way, over, another, looks, way}
 
 -- whatever a turn changes

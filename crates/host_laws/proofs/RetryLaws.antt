@@ -7,16 +7,16 @@ use lib.Dec.{ltb, eqb}
 use borrow.Author.Tests.{leb-true, leb-false, le-ltb, lt-ltb, lt-leb, eq-eqb}
 use Rattle.words.proofs.Choice.{chosen, passed}
 use Rattle.opcodes.specs.rules.Answers.{codeOf}
-use Rattle.host.specs.rules.Turn.{sending}
+use Rattle.host_answers.specs.rules.Answers.{sending}
 use Rattle.host_laws.specs.claims.Looks.{isTurn}
 use Rattle.host_laws.specs.claims.Outgoing.{Begins, Moves, Next, begins, moves, starts-over, closed, closes, done, greeted, started, pinged, echoed}
 use Rattle.host_laws.specs.claims.Outgoing.{echoed-last, met, passed as passed-over, went, matched, sought}
 use Rattle.host_laws.specs.claims.Retries.{mismatches, retried, Retrying, RetriesAreCounted}
-use Rattle.host.specs.declared.Host.{Host}
-use Rattle.host.specs.declared.Sending.{Sending}
-use Rattle.host.specs.declared.Turned.{Turned}
-use Rattle.host.specs.declared.Wait.{Wait}
-use Rattle.host.specs.declared.Wait.the-variants as wait
+use Rattle.host_answers.specs.declared.Host.{Host}
+use Rattle.host_answers.specs.declared.Sending.{Sending}
+use Rattle.host_answers.specs.declared.Turned.{Turned}
+use Rattle.host_answers.specs.declared.Wait.{Wait}
+use Rattle.host_answers.specs.declared.Wait.the-variants as wait
 use Rattle.host_laws.proofs.TurnCases.{Looked, twenty, goes-on, goes, refuses, no-retry, no-seek, Way, over, another, looks, way}
 
 module _ {h : Host} {image : List ℕ} where

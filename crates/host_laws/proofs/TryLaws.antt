@@ -7,10 +7,10 @@ use lib.Dec.{eqb}
 use Rattle.opcodes.specs.rules.Answers.{codeOf, accepted}
 use Rattle.host_laws.specs.claims.Looks.{isTurn, rightAnswer, fails, TwentyExactly, Again, WhatIsRepeated, Fresh, EachWaitAnew}
 use Rattle.host_laws.specs.claims.Outgoing.{Next, begins, moves, starts-over, closed, closes, done}
-use Rattle.host.specs.declared.Host.{Host}
-use Rattle.host.specs.declared.Sending.{Sending}
-use Rattle.host.specs.declared.Turned.{Turned}
-use Rattle.host.specs.declared.Wait.{Wait}
+use Rattle.host_answers.specs.declared.Host.{Host}
+use Rattle.host_answers.specs.declared.Sending.{Sending}
+use Rattle.host_answers.specs.declared.Turned.{Turned}
+use Rattle.host_answers.specs.declared.Wait.{Wait}
 use Rattle.host_laws.proofs.OutLaws.{what-follows}
 use Rattle.host_laws.proofs.TurnCases.{Looked, twenty, goes-on, goes, refuses, no-retry, no-seek, Way, over, another, looks, way}
 

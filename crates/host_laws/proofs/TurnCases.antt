@@ -24,21 +24,24 @@ use Rattle.reading.proofs.Reading.{Reads, no-opcode, unknown, retired, cut-shor
 use Rattle.commands.specs.rules.Commands.{soughtFrom}
 use Rattle.commands.specs.declared.Sought.{Sought}
 use Rattle.commands.specs.declared.Sought.the-variants as sought
-use Rattle.host.specs.rules.Ear.{newest, endsWithChecksum}
-use Rattle.host.specs.rules.Hosts.{at, trying}
-use Rattle.host.specs.rules.Sendings.{echoed, repeats, isPart}
-use Rattle.host.specs.rules.Turn.{unchanged, refused, sending, again, answeredBy, acknowledges, echoHeard, onTo, met, metTo, wordsTo, closing}
-use Rattle.host.specs.rules.Turn.{soughtAs, compared, acknowledgedAs, inWait, turned}
+use Rattle.host_ear.specs.rules.Ear.{newest, endsWithChecksum}
+use Rattle.host_answers.specs.rules.Hosts.{at, trying}
+use Rattle.host_answers.specs.rules.Sendings.{echoed, repeats, isPart}
+use Rattle.host_answers.specs.rules.Answers.{unchanged, refused, sending, again, answeredBy, acknowledges, onTo}
+use Rattle.host_commands.specs.rules.Commands.{wordsTo, closing}
+use Rattle.host.specs.rules.Turn.{echoHeard, met, metTo}
+use Rattle.host_commands.specs.rules.Commands.{soughtAs, compared, acknowledgedAs}
+use Rattle.host.specs.rules.Turn.{inWait, turned}
 use Rattle.host_laws.specs.claims.Looks.{isRequest, isClose, isLent, isTurn, rightAnswer, echoDiffers, fails, repeated}
 use Rattle.host_laws.specs.claims.Outgoing as out
 use Rattle.host_laws.specs.claims.Outgoing.{Stands, Words, Next}
 use Rattle.host_laws.specs.claims.Retries.{mismatches, leads, soughtBy}
-use Rattle.host.specs.declared.Host.{Host}
-use Rattle.host.specs.declared.Sending.{Sending}
-use Rattle.host.specs.declared.Sending.the-variants.{Nothing, Stretch}
-use Rattle.host.specs.declared.Turned.{Turned}
-use Rattle.host.specs.declared.Wait.{Wait}
-use Rattle.host.specs.declared.Wait.the-variants as wait
+use Rattle.host_answers.specs.declared.Host.{Host}
+use Rattle.host_answers.specs.declared.Sending.{Sending}
+use Rattle.host_answers.specs.declared.Sending.the-variants.{Nothing, Stretch}
+use Rattle.host_answers.specs.declared.Turned.{Turned}
+use Rattle.host_answers.specs.declared.Wait.{Wait}
+use Rattle.host_answers.specs.declared.Wait.the-variants as wait
 
 -- a refusal that has no law of its own here: 5, 6, 15
 pub record Plain (q : Refusal) : Type 0 where

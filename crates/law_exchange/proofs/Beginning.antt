@@ -40,20 +40,23 @@ use Rattle.sent.specs.declared.Bus.{Bus}
 use Rattle.sent.specs.declared.Bus.the-variants.{Bytes, Halves}
 use Rattle.sent.proofs.Cases.{unit-start}
 use Rattle.sent.proofs.Feeding.{unit-goes}
+use Rattle.host_laws.proofs.HearingLaws.{heardBy, only-the-ear, acknowledged-small}
 use Rattle.law_line.specs.claims.Line.{Carries}
 use Rattle.law_line.proofs.Words.{word-comes}
-use Rattle.host.specs.rules.Ear.{nothingHeard, newest}
-use Rattle.host.specs.rules.Sendings.{pingOpcode}
+use Rattle.host_ear.specs.rules.Ear.{nothingHeard, newest}
+use Rattle.host_answers.specs.rules.Sendings.{pingOpcode}
+use Rattle.host_answers.specs.rules.Answers as answer
 use Rattle.host.specs.rules.Turn as turn
-use Rattle.host.specs.rules.Turn.{turned, answeredBy, echoHeard}
-use Rattle.host.specs.declared.Ear.{Ear}
-use Rattle.host.specs.declared.Host.{Host}
-use Rattle.host.specs.declared.Sending.{Sending}
-use Rattle.host.specs.declared.Sending.the-variants as sending
-use Rattle.host.specs.declared.Wait.{Wait}
-use Rattle.host.specs.declared.Wait.the-variants as wait
+use Rattle.host_answers.specs.rules.Answers.{answeredBy}
+use Rattle.host.specs.rules.Turn.{turned, echoHeard}
+use Rattle.host_ear.specs.declared.Ear.{Ear}
+use Rattle.host_answers.specs.declared.Host.{Host}
+use Rattle.host_answers.specs.declared.Sending.{Sending}
+use Rattle.host_answers.specs.declared.Sending.the-variants as sending
+use Rattle.host_answers.specs.declared.Wait.{Wait}
+use Rattle.host_answers.specs.declared.Wait.the-variants as wait
 use Rattle.exchange.specs.rules.Exchange.{unitsSent}
-use Rattle.law_exchange.proofs.Hearing.{heardBy, only-the-ear, acknowledged-small, one-word-heard, newest-word, word-count, greeting-heard, start-heard}
+use Rattle.law_exchange.proofs.Hearing.{one-word-heard, newest-word, word-count, greeting-heard, start-heard}
 use Rattle.law_exchange.proofs.Levels.{Level}
 use Rattle.law_exchange.proofs.Scenes.{Scene, scene, advance, turns, by-turn, idle-turn}
 use Rattle.law_exchange.proofs.Standing.{hostAt, turned-at}
@@ -89,7 +92,7 @@ module _ (bus : Bus) (dialect : Dialect) (windows : List Window) (m image : List
   by-wait w ear = turned-at bus dialect image tries limit pings good 0 4 0 w ear
 
   -- a turn whose units are answered by some bytes, and no event
-  answered-turn : (h : Host) (w : Wait) (out : Sending) (x y : State) (bytes : List ℕ) → h .bus ≡ bus → turned h image ≡ turn.sending out (at w nothingHeard)
+  answered-turn : (h : Host) (w : Wait) (out : Sending) (x y : State) (bytes : List ℕ) → h .bus ≡ bus → turned h image ≡ answer.sending out (at w nothingHeard)
       → Carries bus x (unitsSent bus out image) y bytes [] → advance image (scene h x []) ≡ scene (at w (heardBy nothingHeard bytes)) y []
   answered-turn h w out x y bytes on said carried =
       by-turn image h (at w nothingHeard) x y [] [] bytes out said
@@ -155,8 +158,8 @@ module _ (bus : Bus) (dialect : Dialect) (windows : List Window) (m image : List
 
   -- the echo is right: the next word goes out, or the first command is met
   echo-right : (k : ℕ) → k ≤ pings → turned (at (wait.Echo k) (heardBy nothingHeard (sentBytes (oneWord (echo k))))) image
-      ≡ pick (ltb k pings) (turn.enters (wait.Echo (k + 1)) (at (wait.Echo k) (heardBy nothingHeard (sentBytes (oneWord (echo k))))) image)
-      (turn.enters wait.Nothing (at (wait.Echo k) (heardBy nothingHeard (sentBytes (oneWord (echo k))))) image)
+      ≡ pick (ltb k pings) (answer.enters (wait.Echo (k + 1)) (at (wait.Echo k) (heardBy nothingHeard (sentBytes (oneWord (echo k))))) image)
+      (answer.enters wait.Nothing (at (wait.Echo k) (heardBy nothingHeard (sentBytes (oneWord (echo k))))) image)
   unfolding echoHeard
   echo-right k h =
       let heard = heardBy nothingHeard (sentBytes (oneWord (echo k))) in

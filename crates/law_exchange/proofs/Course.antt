@@ -31,17 +31,17 @@ use Rattle.flash_runs.proofs.Ends.{run-ends}
 use Rattle.sent.specs.rules.Opening as sent
 use Rattle.sent.specs.declared.Bus.{Bus}
 use Rattle.machine_answers.specs.rules.Replies.{sentBytes}
+use Rattle.host_laws.proofs.HearingLaws.{only-the-ear}
 use Rattle.law_line.specs.claims.Line.{OnTheLine}
-use Rattle.host.specs.rules.Hosts as host
-use Rattle.host.specs.rules.Hosts.{mostTries, heardAll}
-use Rattle.host.specs.declared.Host.{Host}
-use Rattle.host.specs.declared.Opened.{Opened as HostOpened}
+use Rattle.host_answers.specs.rules.Hosts as host
+use Rattle.host_answers.specs.rules.Hosts.{mostTries, heardAll}
+use Rattle.host_answers.specs.declared.Host.{Host}
+use Rattle.host_answers.specs.declared.Opened.{Opened as HostOpened}
 use Rattle.sent.specs.declared.Opened.{Opened as LoaderOpened}
 use Rattle.exchange.specs.rules.Exchange.{Talk, meeting}
 use Rattle.law_exchange.specs.claims.Course.{Premises, exchangeTurns, talkAfter, inFlash, Course, SameCourse}
 use Rattle.law_exchange.proofs.Beginning.{greeted, begins-level}
 use Rattle.law_exchange.proofs.Following.{follows}
-use Rattle.law_exchange.proofs.Hearing.{only-the-ear}
 use Rattle.law_exchange.proofs.Levels.{over-stays, restTurns, Level, Rest, Followed}
 use Rattle.law_exchange.proofs.Scenes.{Scene, scene, seen, turns, seen-turns, turns-add}
 use Rattle.law_exchange.proofs.Silence.{ended-stays, ended-later}

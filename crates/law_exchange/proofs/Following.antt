@@ -42,20 +42,24 @@ use Rattle.sent.specs.rules.Bus.{unitsOf, unitsFed}
 use Rattle.sent.specs.rules.Feeding.{State, answers, replied}
 use Rattle.sent.specs.claims.Lift.{atWord}
 use Rattle.sent.specs.declared.Bus.{Bus}
+use Rattle.host_laws.proofs.HearingLaws.{heardBy, withEar, only-the-ear, acknowledged-small}
 use Rattle.law_line.specs.claims.Line.{Standing, Carries, Stopped, restHere, CommandSent, RequestSent, OnTheLine}
-use Rattle.host.specs.rules.Ear.{nothingHeard}
-use Rattle.host.specs.rules.Hosts as hosts
-use Rattle.host.specs.rules.Hosts.{stop, heardAll}
-use Rattle.host.specs.rules.Sendings.{startOver, isPart}
+use Rattle.host_ear.specs.rules.Ear.{nothingHeard}
+use Rattle.host_answers.specs.rules.Hosts as hosts
+use Rattle.host_answers.specs.rules.Hosts.{stop, heardAll}
+use Rattle.host_answers.specs.rules.Sendings.{startOver, isPart}
+use Rattle.host_answers.specs.rules.Answers as answer
 use Rattle.host.specs.rules.Turn as turn
-use Rattle.host.specs.rules.Turn.{turned, answeredBy, wordsTo, closing, compared, soughtAs, met, metTo, onTo}
-use Rattle.host.specs.declared.Ear.{Ear}
-use Rattle.host.specs.declared.Host.{Host}
-use Rattle.host.specs.declared.Sending.the-variants as sending
-use Rattle.host.specs.declared.Turned.{Turned}
-use Rattle.host.specs.declared.Wait.{Wait}
-use Rattle.host.specs.declared.Wait.the-variants as wait
-use Rattle.law_exchange.proofs.Hearing.{heardBy, withEar, only-the-ear, earOf, acknowledged-small, one-word-heard, checksum-heard, ends-with-checksum}
+use Rattle.host_answers.specs.rules.Answers.{answeredBy, onTo}
+use Rattle.host_commands.specs.rules.Commands.{byRole, wordsTo, closing, compared, soughtAs}
+use Rattle.host.specs.rules.Turn.{turned, met, metTo}
+use Rattle.host_ear.specs.declared.Ear.{Ear}
+use Rattle.host_answers.specs.declared.Host.{Host}
+use Rattle.host_answers.specs.declared.Sending.the-variants as sending
+use Rattle.host_answers.specs.declared.Turned.{Turned}
+use Rattle.host_answers.specs.declared.Wait.{Wait}
+use Rattle.host_answers.specs.declared.Wait.the-variants as wait
+use Rattle.law_exchange.proofs.Hearing.{earOf, one-word-heard, checksum-heard, ends-with-checksum}
 use Rattle.law_exchange.proofs.Hearing.{newest-checksum}
 use Rattle.law_exchange.proofs.Levels.{Over, loader-over, restTurns, Level, Rest, Followed, stopped-follows, on-follows, level-again}
 use Rattle.law_exchange.proofs.Silence.{closing as closing-wait, ended-stays, ended-later, waits-end, meets-end}
@@ -92,14 +96,14 @@ module _ (line : OnTheLine) (bus : Bus) (image : List ℕ) (tries pings : ℕ) (
   one-turn e = e
 
   -- the host refuses what the call refuses
-  refused-here : (q : Refusal) → turned here image ≡ turn.refused q here → Stopped m call → Followed bus image tries pings call es begin
+  refused-here : (q : Refusal) → turned here image ≡ answer.refused q here → Stopped m call → Followed bus image tries pings call es begin
   refused-here q said stopped =
       stopped-follows bus image tries pings call m es begin (scene (stop here) (atWord k m) es) 1 (omega arith)
       (one-turn (refused-turn image here (stop here) (atWord k m) es q said)) refl refl refl stopped
 
   -- a turn of an opcode: it goes out, and what comes back is heard
   opcode-turn : (retries offset : ℕ) (h : Host) (w : Wait) (word : ℕ) (x y : State) (bytes : List ℕ)
-      → h .bus ≡ bus → turned h image ≡ turn.sending (sending.Word word) (at retries offset w nothingHeard) → Carries bus x (unitsOf bus word) y bytes []
+      → h .bus ≡ bus → turned h image ≡ answer.sending (sending.Word word) (at retries offset w nothingHeard) → Carries bus x (unitsOf bus word) y bytes []
       → advance image (scene h x es) ≡ scene (at retries offset w (heardBy nothingHeard bytes)) y es
   opcode-turn retries offset h w word x y bytes on said carried =
       by-turn image h (at retries offset w nothingHeard) x y es [] bytes (sending.Word word) said
@@ -121,7 +125,7 @@ module _ (line : OnTheLine) (bus : Bus) (image : List ℕ) (tries pings : ℕ) (
     is-part = ap₂ _&&_ (le-leb (s .offset + 4) end (omega arith)) (le-leb end (length image) there)
 
     stretch-turn : (h after : Host) (x y : State) (bytes : List ℕ) (fs : List Event) → h .bus ≡ bus
-        → turned h image ≡ turn.sending (sending.Stretch (s .offset + 4) end) after
+        → turned h image ≡ answer.sending (sending.Stretch (s .offset + 4) end) after
         → Carries bus x (unitsFed bus (restHere bus s m image k c words)) y bytes fs
         → advance image (scene h x es) ≡ scene (heardAll after bytes) y (es ++ fs)
     stretch-turn h after x y bytes fs on said carried =
@@ -133,14 +137,15 @@ module _ (line : OnTheLine) (bus : Bus) (image : List ℕ) (tries pings : ℕ) (
     abbrev acknowledgedHost : Host
     acknowledgedHost = at (s .retries) (s .offset) (wait.Opcode c end) (heardBy nothingHeard (sentBytes (oneWord (acknowledged opcode))))
 
-    acknowledged-words : (next : Host) → answeredBy (turn.acknowledges acknowledgedHost opcode) acknowledgedHost image (wordsTo acknowledgedHost image end next)
-        ≡ turn.sending (sending.Stretch (s .offset + 4) end) next
+    acknowledged-words : (next : Host)
+        → answeredBy (answer.acknowledges acknowledgedHost opcode) acknowledgedHost image (wordsTo acknowledgedHost image end next)
+        ≡ answer.sending (sending.Stretch (s .offset + 4) end) next
     unfolding answeredBy wordsTo
     acknowledged-words next = chosen _ _ _ (one-word-heard (acknowledged opcode) (acknowledged-small opcode)) ∙ chosen _ _ _ is-part
 
     -- two turns: the opcode, and then the words
     module _ (sent : CommandSent bus s m image k c words)
-        (out : turned here image ≡ turn.sending (sending.Word opcode) (at (s .retries) (s .offset) (wait.Opcode c end) nothingHeard)) where
+        (out : turned here image ≡ answer.sending (sending.Word opcode) (at (s .retries) (s .offset) (wait.Opcode c end) nothingHeard)) where
       abbrev between : Scene
       between = scene acknowledgedHost (sent .between) es
 
@@ -151,7 +156,7 @@ module _ (line : OnTheLine) (bus : Bus) (image : List ℕ) (tries pings : ℕ) (
       abbrev heardOfWords : List ℕ
       heardOfWords = replied (answers bus (sent .between) (unitsFed bus (restHere bus s m image k c words)))
 
-      words-out : (after : Host) → turned acknowledgedHost image ≡ turn.sending (sending.Stretch (s .offset + 4) end) after
+      words-out : (after : Host) → turned acknowledgedHost image ≡ answer.sending (sending.Stretch (s .offset + 4) end) after
           → turns image 2 begin ≡ scene (heardAll after heardOfWords) (sent .end) (es ++ told (call .answer .event))
       unfolding turns
       words-out after said =
@@ -174,11 +179,11 @@ module _ (line : OnTheLine) (bus : Bus) (image : List ℕ) (tries pings : ℕ) (
 
     -- a command that goes on
     module _ (some : 1 ≤ tries) (sent : CommandSent bus s m image k c words) (role : roleNumber c ≡ 3)
-        (same : (passed asked closed gone : Turned) → turn.byRole c passed asked closed gone ≡ gone) where
-      out : turned here image ≡ turn.sending (sending.Word opcode) (at (s .retries) (s .offset) (wait.Opcode c end) nothingHeard)
+        (same : (passed asked closed gone : Turned) → byRole c passed asked closed gone ≡ gone) where
+      out : turned here image ≡ answer.sending (sending.Word opcode) (at (s .retries) (s .offset) (wait.Opcode c end) nothingHeard)
       out = meets ∙ same _ _ _ _
 
-      said : turned acknowledgedHost image ≡ turn.sending (sending.Stretch (s .offset + 4) end) (onTo acknowledgedHost end)
+      said : turned acknowledgedHost image ≡ answer.sending (sending.Stretch (s .offset + 4) end) (onTo acknowledgedHost end)
       said = by-wait (s .retries) (s .offset) _ _ ∙ same _ _ _ _ ∙ acknowledged-words (onTo acknowledgedHost end)
 
       abbrev past : List ℕ → Scene
@@ -226,10 +231,10 @@ module _ (line : OnTheLine) (bus : Bus) (image : List ℕ) (tries pings : ℕ) (
     abbrev answeredClose : Host
     answeredClose = acknowledgedHost JumpAndClose words reads there
 
-    out-close : turned here image ≡ turn.sending (sending.Word opcode) (at (s .retries) (s .offset) (wait.Opcode JumpAndClose last) nothingHeard)
+    out-close : turned here image ≡ answer.sending (sending.Word opcode) (at (s .retries) (s .offset) (wait.Opcode JumpAndClose last) nothingHeard)
     out-close = meets JumpAndClose words reads there
 
-    said-close : turned answeredClose image ≡ turn.sending (sending.Stretch (s .offset + 4) last) (closing (s .dialect) (hosts.at answeredClose last))
+    said-close : turned answeredClose image ≡ answer.sending (sending.Stretch (s .offset + 4) last) (closing (s .dialect) (hosts.at answeredClose last))
     said-close = by-wait (s .retries) (s .offset) _ _ ∙ acknowledged-words JumpAndClose words reads there _
 
     abbrev farewellHeard : List ℕ
@@ -242,7 +247,7 @@ module _ (line : OnTheLine) (bus : Bus) (image : List ℕ) (tries pings : ℕ) (
     close-turns : (after : Host) → closing (s .dialect) (hosts.at answeredClose last) ≡ after
         → turns image 2 begin ≡ scene (withEar after (heardBy (after .ear) farewellHeard)) (sent .end) told-here
     close-turns after e =
-        words-out JumpAndClose words reads there sent out-close _ (said-close ∙ ap (turn.sending (sending.Stretch (s .offset + 4) last)) e)
+        words-out JumpAndClose words reads there sent out-close _ (said-close ∙ ap (answer.sending (sending.Stretch (s .offset + 4) last)) e)
         ∙ ap (λ (h : Host). scene h (sent .end) told-here) (only-the-ear farewellHeard after)
 
     followed-by : (y : Scene) → turns image 2 begin ≡ y → y .loader ≡ sent .end → y .events ≡ told-here
@@ -260,7 +265,7 @@ module _ (line : OnTheLine) (bus : Bus) (image : List ℕ) (tries pings : ℕ) (
     waitsForDone ear = at (s .retries) last wait.Closing ear
 
     done-heard : turned (waitsForDone (heardBy nothingHeard (sentBytes (oneWord doneWord)))) image
-        ≡ turn.sending sending.Nothing (stop (waitsForDone (heardBy nothingHeard (sentBytes (oneWord doneWord)))))
+        ≡ answer.sending sending.Nothing (stop (waitsForDone (heardBy nothingHeard (sentBytes (oneWord doneWord)))))
     unfolding answeredBy
     done-heard = by-wait (s .retries) last wait.Closing _ ∙ chosen _ _ _ (one-word-heard doneWord (lit< tt))
 
@@ -302,7 +307,7 @@ module _ (line : OnTheLine) (bus : Bus) (image : List ℕ) (tries pings : ℕ) (
     past-is : past-request ≡ s .offset + 12
     past-is = omega (arith, two)
 
-    out-request : turned here image ≡ turn.sending (sending.Word opcode) (at (s .retries) (s .offset) (wait.Opcode Request past-request) nothingHeard)
+    out-request : turned here image ≡ answer.sending (sending.Word opcode) (at (s .retries) (s .offset) (wait.Opcode Request past-request) nothingHeard)
     out-request = meets Request words reads there
 
     -- the host that has heard the checksum
@@ -328,7 +333,7 @@ module _ (line : OnTheLine) (bus : Bus) (image : List ℕ) (tries pings : ℕ) (
     two-from e = ap (advance image) request-out ∙ e
 
     -- refused, with the call
-    refused-request : (q : Refusal) → turned asking image ≡ turn.refused q asking → Stopped m call → Followed bus image tries pings call es begin
+    refused-request : (q : Refusal) → turned asking image ≡ answer.refused q asking → Stopped m call → Followed bus image tries pings call es begin
     refused-request q said stopped =
         stopped-follows bus image tries pings call m es begin (scene (stop asking) (atWord (sent .asked) m) es) 2 (omega arith)
         (two-from (refused-turn image asking (stop asking) (atWord (sent .asked) m) es q said)) refl refl refl stopped
@@ -358,7 +363,7 @@ module _ (line : OnTheLine) (bus : Bus) (image : List ℕ) (tries pings : ℕ) (
         overAt offset ear = at (s .retries + 1) (s .offset) (wait.Over offset) ear
 
         over-heard : (offset : ℕ) → turned (overAt offset (heardBy nothingHeard (sentBytes (oneWord (acknowledged startOver))))) image
-            ≡ turn.sending sending.Nothing (at (s .retries + 1) offset wait.Nothing nothingHeard)
+            ≡ answer.sending sending.Nothing (at (s .retries + 1) offset wait.Nothing nothingHeard)
         unfolding answeredBy
         over-heard offset =
             by-wait (s .retries + 1) (s .offset) (wait.Over offset) _ ∙ chosen _ _ _ (one-word-heard (acknowledged startOver) (acknowledged-small startOver))

@@ -13,25 +13,10 @@ use Rattle.sent.specs.rules.Line.{startAnswer}
 use Rattle.sent.specs.rules.Opening.{greeting}
 use Rattle.sent.specs.declared.Bus.{Bus}
 use Rattle.sent.specs.declared.Bus.the-variants.{Bytes, Halves}
-use Rattle.host.specs.rules.Ear.{nothingHeard, hearing, newest, endsWith, endsWithChecksum}
-use Rattle.host.specs.rules.Hosts.{changed, heard, heardAll}
-use Rattle.host.specs.declared.Ear.{Ear}
-use Rattle.host.specs.declared.Host.{Host}
-
--- an ear after some bytes
-unfoldable pub heardBy : Ear → List ℕ → Ear
-heardBy ear [] = ear
-heardBy ear (b ∷ bs) = heardBy (hearing ear b) bs
-
--- a host with another ear
-abbrev pub withEar : Host → Ear → Host
-withEar h ear = changed h (h .ended) (h .retries) (h .offset) (h .spent) (h .stage .wait) ear
-
--- hearing changes the ear alone
-pub only-the-ear : (bs : List ℕ) (h : Host) → heardAll h bs ≡ withEar h (heardBy (h .ear) bs)
-unfolding heardAll heard heardBy
-only-the-ear [] h = refl
-only-the-ear (b ∷ bs) h = only-the-ear bs (heard h b)
+use Rattle.host_ear.proofs.Words.{word-again as word-number}
+use Rattle.host_ear.specs.rules.Ear.{nothingHeard, hearing, newest, endsWith, endsWithChecksum}
+use Rattle.host_ear.specs.declared.Ear.{Ear}
+use Rattle.host_laws.proofs.HearingLaws.{heardBy, acknowledged-small}
 
 -- the four bytes of a word
 abbrev pub wordBytes : ℕ → List ℕ
@@ -57,26 +42,6 @@ word-again v h =
     let high : v / 16777216 % 256 ≡ v / 16777216 = omega arith in
     omega arith
 
-number-again : (v : ℕ) → v < 2 ^ 32 → number (wordBytes v) ≡ v
-unfolding number join byte
-number-again v h =
-    ap (λ (rest : ℕ). rest * 2 ^ 8 + v / 2 ^ (8 * 0) % 256 % 2 ^ 8)
-    (ap (λ (rest : ℕ). rest * 2 ^ 8 + v / 2 ^ (8 * 1) % 256 % 2 ^ 8)
-    (ap (λ (rest : ℕ). rest * 2 ^ 8 + v / 2 ^ (8 * 2) % 256 % 2 ^ 8) fourth ∙ third) ∙ second)
-    ∙ first
-  where
-    fourth : 0 * 2 ^ 8 + v / 2 ^ (8 * 3) % 256 % 2 ^ 8 ≡ v / 2 ^ 24
-    fourth = omega arith
-
-    third : v / 2 ^ 24 * 2 ^ 8 + v / 2 ^ (8 * 2) % 256 % 2 ^ 8 ≡ v / 2 ^ 16
-    third = omega arith
-
-    second : v / 2 ^ 16 * 2 ^ 8 + v / 2 ^ (8 * 1) % 256 % 2 ^ 8 ≡ v / 2 ^ 8
-    second = omega arith
-
-    first : v / 2 ^ 8 * 2 ^ 8 + v / 2 ^ (8 * 0) % 256 % 2 ^ 8 ≡ v
-    first = omega arith
-
 -- a word heard, the count apart
 abbrev pub earOf : ℕ → ℕ → Ear
 earOf last count = record { last = last; count = count; fresh = true }
@@ -88,18 +53,13 @@ heard-word ear v h =
     ap (λ (x : ℕ). earOf x (min (min (min (min (ear .count + 1) 8 + 1) 8 + 1) 8 + 1) 8))
     (four-in (ear .last) (byte v 0) (byte v 1) (byte v 2) (byte v 3) ∙ ap (λ (w : ℕ). ear .last / 2 ^ 32 + w * 2 ^ 32) (word-again v h))
 
--- an acknowledgement is below 2^32
-pub acknowledged-small : (opcode : ℕ) → acknowledged opcode < 2 ^ 32
-unfolding acknowledged
-acknowledged-small opcode = omega arith
-
 -- one word after nothing: it is the newest
 pub one-word-heard : (v : ℕ) → v < 2 ^ 32 → endsWith (heardBy nothingHeard (sentBytes (oneWord v))) (oneWord v) ≡ true
 unfolding endsWith newest oneWord
 one-word-heard v h =
     let heard = heard-word nothingHeard v h in
     let whole : (0 / 2 ^ 32 + v * 2 ^ 32) / 2 ^ (64 - 8 * 4) ≡ v = omega arith in
-    ap₂ (λ (e : Ear) (n : ℕ). leb 4 (e .count) && eqb (e .last / 2 ^ (64 - 8 * 4)) n) heard (number-again v h)
+    ap₂ (λ (e : Ear) (n : ℕ). leb 4 (e .count) && eqb (e .last / 2 ^ (64 - 8 * 4)) n) heard (word-number v h)
     ∙ ap (λ (t : Bool). true && t) (eq-eqb ((0 / 2 ^ 32 + v * 2 ^ 32) / 2 ^ (64 - 8 * 4)) v whole)
 
 heard-append : (bs cs : List ℕ) (ear : Ear) → heardBy ear (bs ++ cs) ≡ heardBy (heardBy ear bs) cs

@@ -16,10 +16,10 @@ use Rattle.sent.specs.rules.Feeding.{State}
 use Rattle.sent.specs.claims.Lift.{atWord}
 use Rattle.sent.specs.declared.Bus.{Bus}
 use Rattle.law_line.specs.claims.Line.{Standing, Stopped, GoesOnAt, Keeps}
-use Rattle.host.specs.rules.Ear.{nothingHeard}
+use Rattle.host_ear.specs.rules.Ear.{nothingHeard}
 use Rattle.host.specs.rules.Turn.{turned}
-use Rattle.host.specs.declared.Host.{Host}
-use Rattle.host.specs.declared.Wait.the-variants as wait
+use Rattle.host_answers.specs.declared.Host.{Host}
+use Rattle.host_answers.specs.declared.Wait.the-variants as wait
 use Rattle.exchange.specs.rules.Exchange.{unitsSent}
 use Rattle.law_exchange.proofs.Scenes.{Scene, scene, advance, turns, absorbed-carried}
 use Rattle.law_exchange.proofs.Silence.{ended-stays}

@@ -17,13 +17,13 @@ use Rattle.sent.specs.claims.Lift.{refusedBy}
 use Rattle.sent.specs.declared.Bus.{Bus}
 use Rattle.sent.proofs.Lift.{absorbed}
 use Rattle.law_line.specs.claims.Line.{Carries}
-use Rattle.host.specs.rules.Hosts.{heardAll}
-use Rattle.host.specs.rules.Turn as turn
+use Rattle.host_answers.specs.rules.Hosts.{heardAll}
+use Rattle.host_answers.specs.rules.Answers as answer
 use Rattle.host.specs.rules.Turn.{turned, inWait}
-use Rattle.host.specs.declared.Host.{Host}
-use Rattle.host.specs.declared.Sending.{Sending}
-use Rattle.host.specs.declared.Sending.the-variants as sending
-use Rattle.host.specs.declared.Turned.{Turned}
+use Rattle.host_answers.specs.declared.Host.{Host}
+use Rattle.host_answers.specs.declared.Sending.{Sending}
+use Rattle.host_answers.specs.declared.Sending.the-variants as sending
+use Rattle.host_answers.specs.declared.Turned.{Turned}
 use Rattle.exchange.specs.rules.Exchange.{Talk, unitsSent, onward, talked}
 
 -- host, loader and events
@@ -65,7 +65,7 @@ module _ (image : List ℕ) where
   turns-add (suc n) k x = rw (suc-add n k) (turns-add n k (advance x))
 
   -- a turn that is told: what the host says, and what its units carry
-  pub by-turn : (h h' : Host) (x y : State) (es fs : List Event) (bytes : List ℕ) (out : Sending) → turned h image ≡ turn.sending out h'
+  pub by-turn : (h h' : Host) (x y : State) (es fs : List Event) (bytes : List ℕ) (out : Sending) → turned h image ≡ answer.sending out h'
       → Carries (h .bus) x (unitsSent (h .bus) out image) y bytes fs → advance (scene h x es) ≡ scene (heardAll h' bytes) y (es ++ fs)
   by-turn h h' x y es fs bytes out said carried =
       ap (λ (t : Turned). played t (scene h x es)) said
@@ -92,7 +92,7 @@ module _ (image : List ℕ) where
       }
 
   -- a silent turn: the loader has ended, so nothing is heard
-  pub silent-turn : (h h' : Host) (x : State) (es : List Event) (out : Sending) → turned h image ≡ turn.sending out h' → x .session .core .ended ≡ true
+  pub silent-turn : (h h' : Host) (x : State) (es : List Event) (out : Sending) → turned h image ≡ answer.sending out h' → x .session .core .ended ≡ true
       → advance (scene h x es) ≡ scene h' x es
   unfolding heardAll
   silent-turn h h' x es out said over =
@@ -100,19 +100,19 @@ module _ (image : List ℕ) where
       ∙ ap (λ (fs : List Event). scene h' x fs) (append-nil es)
 
   -- a turn in which nothing goes out
-  pub idle-turn : (h h' : Host) (x : State) (es : List Event) → turned h image ≡ turn.sending sending.Nothing h' → advance (scene h x es) ≡ scene h' x es
+  pub idle-turn : (h h' : Host) (x : State) (es : List Event) → turned h image ≡ answer.sending sending.Nothing h' → advance (scene h x es) ≡ scene h' x es
   unfolding heardAll
   idle-turn h h' x es said =
       by-turn h h' x x es [] [] sending.Nothing said (nothing-carried (h .bus) x) ∙ ap (λ (fs : List Event). scene h' x fs) (append-nil es)
 
   -- a refused turn
-  pub refused-turn : (h h' : Host) (x : State) (es : List Event) (q : Refusal) → turned h image ≡ turn.unchanged q h' → advance (scene h x es) ≡ scene h' x es
+  pub refused-turn : (h h' : Host) (x : State) (es : List Event) (q : Refusal) → turned h image ≡ answer.unchanged q h' → advance (scene h x es) ≡ scene h' x es
   unfolding heardAll fed answers replied eventsHeard
   refused-turn h h' x es q said =
       ap (λ (t : Turned). played t (scene h x es)) said ∙ ap (λ (fs : List Event). scene h' x fs) (append-nil es)
 
   -- the turn of a host that has ended, and of one that goes by its wait
-  pub ended-turned : (h : Host) → h .ended ≡ true → turned h image ≡ turn.unchanged refusal.Ended h
+  pub ended-turned : (h : Host) → h .ended ≡ true → turned h image ≡ answer.unchanged refusal.Ended h
   unfolding turned
   ended-turned h over = chosen _ _ _ over
 

@@ -23,15 +23,16 @@ use Rattle.flash_session.specs.rules.Opening.{goodLength}
 use Rattle.machine_answers.specs.rules.Replies.{oneWord}
 use Rattle.sent.specs.rules.Feeding.{State}
 use Rattle.sent.specs.declared.Bus.{Bus}
-use Rattle.host.specs.rules.Ear.{nothingHeard, endsWith, endsWithChecksum}
-use Rattle.host.specs.rules.Hosts.{stop}
-use Rattle.host.specs.rules.Turn as turn
-use Rattle.host.specs.rules.Turn.{again, answeredBy, met, metTo, inWait, turned}
-use Rattle.host.specs.declared.Ear.{Ear}
-use Rattle.host.specs.declared.Host.{Host}
-use Rattle.host.specs.declared.Sending.the-variants as sending
-use Rattle.host.specs.declared.Wait.{Wait}
-use Rattle.host.specs.declared.Wait.the-variants as wait
+use Rattle.host_ear.specs.rules.Ear.{nothingHeard, endsWith, endsWithChecksum}
+use Rattle.host_answers.specs.rules.Hosts.{stop}
+use Rattle.host_answers.specs.rules.Answers as answer
+use Rattle.host_answers.specs.rules.Answers.{again, answeredBy}
+use Rattle.host.specs.rules.Turn.{met, metTo, inWait, turned}
+use Rattle.host_ear.specs.declared.Ear.{Ear}
+use Rattle.host_answers.specs.declared.Host.{Host}
+use Rattle.host_answers.specs.declared.Sending.the-variants as sending
+use Rattle.host_answers.specs.declared.Wait.{Wait}
+use Rattle.host_answers.specs.declared.Wait.the-variants as wait
 use Rattle.law_exchange.proofs.Scenes.{Scene, scene, advance, turns, turns-add, silent-turn, refused-turn, ended-turned}
 use Rattle.law_exchange.proofs.Standing.{Role, passes, asks, closes, goes, roleOf, hostAt, turned-at}
 
@@ -134,7 +135,7 @@ module _ (bus : Bus) (dialect : Dialect) (image : List ℕ) (tries limit pings :
       whole-there ear o words c e there = by-reading ear o (read.Whole c words) e ∙ passed _ _ _ (le-ltb _ _ there)
 
       -- its opcode goes out, and the tries are spent on it
-      in-vain : (ear : Ear) (n o end : ℕ) (c : Command) → tries ≤ n → turned (before ear o) image ≡ turn.enters (wait.Opcode c end) (before ear o) image
+      in-vain : (ear : Ear) (n o end : ℕ) (c : Command) → tries ≤ n → turned (before ear o) image ≡ answer.enters (wait.Opcode c end) (before ear o) image
           → Ends (suc n) (here ear o)
       in-vain ear n o end c enough said =
           leads-on ear n o (scene (at r o 0 (wait.Opcode c end)) x es) (silent-turn image _ (at r o 0 (wait.Opcode c end)) x es _ said over)

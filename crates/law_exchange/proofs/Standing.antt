@@ -10,11 +10,12 @@ use Rattle.opcodes.specs.declared.Command.the-variants.{Load, Fill, BootTable, 
 use Rattle.opcodes.specs.declared.Dialect.{Dialect}
 use Rattle.flash_session.specs.rules.Opening.{goodLength}
 use Rattle.sent.specs.declared.Bus.{Bus}
-use Rattle.host.specs.rules.Turn.{turned, inWait, byRole}
-use Rattle.host.specs.declared.Ear.{Ear}
-use Rattle.host.specs.declared.Host.{Host}
-use Rattle.host.specs.declared.Turned.{Turned}
-use Rattle.host.specs.declared.Wait.{Wait}
+use Rattle.host_commands.specs.rules.Commands.{byRole}
+use Rattle.host.specs.rules.Turn.{turned, inWait}
+use Rattle.host_ear.specs.declared.Ear.{Ear}
+use Rattle.host_answers.specs.declared.Host.{Host}
+use Rattle.host_answers.specs.declared.Turned.{Turned}
+use Rattle.host_answers.specs.declared.Wait.{Wait}
 use Rattle.law_exchange.proofs.Scenes.{wait-turned}
 
 -- the roles as numbers, by which they are told apart

@@ -1,15 +1,13 @@
 -- The instances, by computing the flash run and by the course; and the counterexamples, by computing up to where one of the two has ended.
-use Prim.Native.Nat.{ℕ, zero, suc}
-use mathlib.Core.Bool.{Bool, true, _&&_}
+use Prim.Native.Nat.{ℕ}
+use mathlib.Core.Bool.{true}
 use mathlib.Core.List.{List, [], _∷_}
 use mathlib.Core.Path.{_≡_, refl, ap, _∙_}
 use native.Mathlib.Omega.{arith}
-use lib.Dec.{ltb, lit<, lit≤}
-use borrow.Author.Tests.{ltb-true}
+use lib.Dec.{lit<, lit≤}
 use Rattle.words.specs.rules.Bits.{bit, join}
-use Rattle.words.specs.rules.Bytes.{byte, number, bytesAt, wordAt, put, AreBytes}
+use Rattle.words.specs.rules.Bytes.{byte, number, bytesAt, wordAt, put}
 use Rattle.words.specs.rules.Choice.{pick}
-use Rattle.words.proofs.Choice.{both}
 use Rattle.checksum.specs.rules.Checksum as feeding
 use Rattle.windows.specs.rules.Map.{soundWindow, allSound, rising, goodMap, keptOf}
 use Rattle.windows.specs.rules.Window.{hasRight, inside, grantsRange, placeFrom, placeOf, sumOf}
@@ -37,11 +35,14 @@ use Rattle.sent.specs.rules.Feeding.{fed, answers, replied, eventsHeard, firstO
 use Rattle.sent.specs.rules.Line.{startAnswer, isStart, unitStep, carried}
 use Rattle.sent.specs.rules.Opening as sent
 use Rattle.sent.specs.declared.Bus.{Bus}
-use Rattle.host.specs.rules.Ear.{hearing, newest, endsWith, endsWithChecksum}
-use Rattle.host.specs.rules.Hosts as host
-use Rattle.host.specs.rules.Hosts.{heard, heardAll}
-use Rattle.host.specs.rules.Sendings.{isPart}
-use Rattle.host.specs.rules.Turn.{again, answeredBy, echoHeard, wordsTo, turned}
+use Rattle.host_ear.specs.rules.Ear.{hearing, newest, endsWith, endsWithChecksum}
+use Rattle.host_answers.specs.rules.Hosts as host
+use Rattle.host_answers.specs.rules.Hosts.{heard, heardAll}
+use Rattle.host_answers.specs.rules.Sendings.{isPart}
+use Rattle.host_answers.specs.rules.Answers.{again, answeredBy}
+use Rattle.host_commands.specs.rules.Commands.{wordsTo}
+use Rattle.host.specs.rules.Turn.{echoHeard, turned}
+use Rattle.host_laws.proofs.HearingLaws.{allSmall, bytes-by}
 use Rattle.exchange.specs.rules.Exchange.{Talk, firstButEnded, onward, talked}
 use Rattle.law_line.specs.claims.Line.{OnTheLine}
 use Rattle.law_exchange.specs.claims.Course.{Premises, exchangeTurns}
@@ -49,17 +50,6 @@ use Rattle.law_exchange.specs.claims.Worked.{windows, memory, image, Wor
 use Rattle.law_exchange.proofs.Course.{same-course}
 use Rattle.law_exchange.proofs.Levels.{Over, host-over, loader-over, over-stays}
 use Rattle.law_exchange.proofs.Scenes.{Scene, seen, seen-turns}
-
--- bytes by a test
-unfoldable allSmall : List ℕ → Bool
-allSmall [] = true
-allSmall (b ∷ bs) = ltb b 256 && allSmall bs
-
-bytes-by : (bs : List ℕ) → allSmall bs ≡ true → AreBytes bs
-unfolding allSmall
-bytes-by [] e i = lit< tt
-bytes-by (b ∷ bs) e zero = ltb-true b 256 (both _ _ e .0)
-bytes-by (b ∷ bs) e (suc i) = bytes-by bs (both (ltb b 256) _ e .1) i
 
 all-small : (dialect : Dialect) → allSmall (image dialect) ≡ true
 unfolding allSmall byte

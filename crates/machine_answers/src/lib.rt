@@ -103,7 +103,7 @@ pub fn reply_word(word: u32) -> Reply
 }
 
 // DONE, which a DM648 says on entering.
-const DONE: u32 = 0x454E_4F44;
+pub const DONE: u32 = 0x454E_4F44;
 
 // What is said on entering.
 fn last_reply(dialect: Dialect) -> Reply

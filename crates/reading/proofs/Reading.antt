@@ -1,20 +1,24 @@
 -- How a command is read, by the facts that the tests ask: each law takes the tests of a definition one after the other.
 use Prim.Native.Nat.{ℕ, _+_, _*_, _≤_, _<_}
 use mathlib.Core.Bool.{true, false, not}
-use mathlib.Core.List.{List}
+use mathlib.Core.List.{List, [], _∷_}
 use mathlib.Core.Path.{_≡_, refl, ap, subst, _∙_}
+use denote.Enum.Declared.{tagOf}
+use types.Run.{OneOf, miss}
 use lib.ListN.{length}
 use borrow.Author.Tests.{le-leb, lt-leb, leb-true, leb-false, not-true, not-false}
 use Rattle.words.specs.rules.Bytes.{wordAt}
 use Rattle.words.proofs.Choice.{chosen, passed, of-choice}
 use Rattle.opcodes.specs.rules.Opcodes.{lookedUp}
 use Rattle.opcodes.specs.declared.Command.{Command}
+use Rattle.opcodes.specs.declared.Command.the-variants.{Load, Fill, BootTable, Enable, Disable, Request, StartOver, JumpAndClose, Ping, SequentialRead}
+use Rattle.opcodes.proofs.Command as command
 use Rattle.opcodes.specs.declared.Dialect.{Dialect}
 use Rattle.opcodes.specs.declared.Found.{Found}
 use Rattle.opcodes.specs.declared.Found.the-variants.{Known, Retired, Unknown}
 use Rattle.opcodes.specs.declared.Mode.the-variants.{Flash}
 use Rattle.opcodes.specs.declared.Refusal.the-variants as refusal
-use Rattle.reading.specs.rules.Reading.{present, wordsFrom, pastWords, readAs, readAt}
+use Rattle.reading.specs.rules.Reading.{present, wordsFrom, pastWords, dataSize, readAs, readAt}
 use Rattle.reading.specs.declared.Read.{Read}
 use Rattle.reading.specs.declared.Read.the-variants.{Whole, Refused}
 
@@ -93,3 +97,17 @@ module _ (image : List ℕ) where
 
       pub whole-there : {command : Command} {words : ℕ} → readAt image offset dialect ≡ Whole command words → pastWords offset words ≤ length image
       whole-there e = subst Ends e (ends reads)
+
+-- a command that is no load has no data
+pub no-load : (k : Command) (image : List ℕ) (offset : ℕ) → OneOf (1 ∷ 2 ∷ 3 ∷ 4 ∷ 5 ∷ 6 ∷ 7 ∷ 8 ∷ 9 ∷ []) (tagOf command.the-type k)
+    → 0 ≡ dataSize k image offset
+no-load Load image offset keys = absurd (miss (1 ∷ 2 ∷ 3 ∷ 4 ∷ 5 ∷ 6 ∷ 7 ∷ 8 ∷ 9 ∷ []) 0 tt keys)
+no-load Fill image offset keys = refl
+no-load BootTable image offset keys = refl
+no-load Enable image offset keys = refl
+no-load Disable image offset keys = refl
+no-load Request image offset keys = refl
+no-load StartOver image offset keys = refl
+no-load JumpAndClose image offset keys = refl
+no-load Ping image offset keys = refl
+no-load SequentialRead image offset keys = refl

@@ -2,7 +2,7 @@
 ghost use mathlib.Core.Path.{_≡_};
 ghost use Prim.Native.Nat.{_+_, _≤_};
 ghost use lib.ListN.{length};
-ghost use Rattle.reading.specs.rules.Reading.{present, argument, dataWords, readAs, readAt};
+ghost use Rattle.reading.specs.rules.Reading.{present, argument, dataWords, dataSize, pastData, readAs, readAt};
 use opcodes::Command;
 use opcodes::Dialect;
 use opcodes::Found;
@@ -66,4 +66,22 @@ pub fn has_data(image: &[u8], from: u32, size: u32) -> bool
     ensures { λ r. ⌜ r ≡ present (now (image .entry)) from (dataWords size) ⌝ }
 {
     (from as usize) + 4 * (data_words(size) as usize) <= image.len()
+}
+
+// The data bytes of the command at an offset: a load's, by its size word.
+pub fn data_size(command: Command, image: &[u8], offset: u32) -> u32
+    ensures { λ r. ⌜ r ≡ dataSize command (now (image .entry)) offset ⌝ }
+{
+    match command {
+        Command::Load => argument_at(image, offset, 1),
+        _ => 0,
+    }
+}
+
+// Where a command with so many argument words ends with its data.
+pub fn end_of(command: Command, words: u32, image: &[u8], offset: u32) -> usize
+    ensures { λ r. ⌜ r ≡ pastData command words (now (image .entry)) offset ⌝ }
+{
+    let data = data_words(data_size(command, image, offset));
+    (offset as usize) + 4 * (1 + (words as usize)) + 4 * (data as usize)
 }

@@ -3,9 +3,9 @@ use Prim.Native.Nat.{ℕ, _≤_}
 use mathlib.Core.List.{List}
 use Rattle.flash_session.specs.rules.Opening.{longest}
 use Rattle.host.specs.rules.Turn.{turned}
-use Rattle.host.specs.declared.Host.{Host}
-use Rattle.host.specs.declared.Sending.{Sending}
-use Rattle.host.specs.declared.Sending.the-variants.{Nothing, Start, Word, Stretch}
+use Rattle.host_answers.specs.declared.Host.{Host}
+use Rattle.host_answers.specs.declared.Sending.{Sending}
+use Rattle.host_answers.specs.declared.Sending.the-variants.{Nothing, Start, Word, Stretch}
 
 -- a stretch ends where an image may end, and not before it begins
 abbrev pub InImage : Sending → Type 0

@@ -2,7 +2,7 @@
 use Prim.Native.Nat.{_^_, _<_}
 use mathlib.Core.Path.{_≡_}
 use lib.ListN.{length}
-use Rattle.host.specs.declared.Host.{Host}
+use Rattle.host_answers.specs.declared.Host.{Host}
 use Rattle.bench_hosts.specs.rules.HostBytes.{hostBytes, waitValue, writtenHost, readHost}
 
 -- every number of a host is of its type's range, as in every host that code holds

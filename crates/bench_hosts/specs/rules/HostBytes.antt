@@ -12,11 +12,11 @@ use Rattle.opcodes.specs.declared.Dialect.{Dialect}
 use Rattle.opcodes.specs.declared.Dialect.the-variants.{Am17xx, Dm648}
 use Rattle.sent.specs.declared.Bus.{Bus}
 use Rattle.sent.specs.declared.Bus.the-variants.{Bytes, Halves}
-use Rattle.host.specs.declared.Ear.{Ear}
-use Rattle.host.specs.declared.Host.{Host}
-use Rattle.host.specs.declared.Stage.{Stage}
-use Rattle.host.specs.declared.Wait.{Wait}
-use Rattle.host.specs.declared.Wait.the-variants as wait
+use Rattle.host_ear.specs.declared.Ear.{Ear}
+use Rattle.host_answers.specs.declared.Host.{Host}
+use Rattle.host_answers.specs.declared.Stage.{Stage}
+use Rattle.host_answers.specs.declared.Wait.{Wait}
+use Rattle.host_answers.specs.declared.Wait.the-variants as wait
 use Rattle.bench_sessions.specs.rules.Numbers.{lineOf, dialectOf}
 
 -- the bytes of a host

@@ -12,12 +12,12 @@ use Rattle.opcodes.specs.declared.Event.{Event}
 use Rattle.opcodes.specs.declared.Event.the-variants as event
 use Rattle.opcodes.specs.declared.Refusal.{Refusal}
 use Rattle.opcodes.specs.declared.Refusal.the-variants as refusal
-use Rattle.host.specs.rules.Hosts.{heard, openedBy}
+use Rattle.host_answers.specs.rules.Hosts.{heard, openedBy}
 use Rattle.host.specs.rules.Turn.{turned}
-use Rattle.host.specs.declared.Opened.{Opened}
-use Rattle.host.specs.declared.Sending.{Sending}
-use Rattle.host.specs.declared.Sending.the-variants as sending
-use Rattle.host.specs.declared.Turned.{Turned}
+use Rattle.host_answers.specs.declared.Opened.{Opened}
+use Rattle.host_answers.specs.declared.Sending.{Sending}
+use Rattle.host_answers.specs.declared.Sending.the-variants as sending
+use Rattle.host_answers.specs.declared.Turned.{Turned}
 use Rattle.exchange.specs.rules.Exchange.{Talk, meeting, exchanged}
 use Rattle.exchange.specs.rules.Standing.{outcomeOf}
 use Rattle.exchange.specs.declared.Exchanged.{Exchanged}

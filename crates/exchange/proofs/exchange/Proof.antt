@@ -4,7 +4,7 @@ use mathlib.Core.Path.{_≡_, refl, _∙_}
 use native.Mathlib.Omega.{arith}
 use lib.ListN.{length}
 use borrow.Author.Tests.{not-true, not-false}
-use Rattle.host.specs.rules.Ends.{mostTurns}
+use Rattle.host_answers.specs.rules.Ends.{mostTurns}
 use Rattle.exchange.specs.rules.Exchange.{Talk}
 use Rattle.exchange.proofs.Settling.{Reaches, goes, goes-less, ends, meets}
 use Rattle.exchange.proofs.exchange.Statement.{statement}

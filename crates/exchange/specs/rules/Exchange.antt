@@ -13,14 +13,14 @@ use Rattle.sent.specs.rules.Bus.{startUnit, unitsOf, unitsFed}
 use Rattle.sent.specs.rules.Feeding.{State, Heard, fed, answers, replied, eventsHeard, firstOf}
 use Rattle.sent.specs.rules.Opening as sent
 use Rattle.sent.specs.declared.Bus.{Bus}
-use Rattle.host.specs.rules.Ends.{mostTurns}
-use Rattle.host.specs.rules.Hosts.{heardAll, openedBy}
-use Rattle.host.specs.rules.Sendings.{stretchOf}
+use Rattle.host_answers.specs.rules.Ends.{mostTurns}
+use Rattle.host_answers.specs.rules.Hosts.{heardAll, openedBy}
+use Rattle.host_answers.specs.rules.Sendings.{stretchOf}
 use Rattle.host.specs.rules.Turn.{turned}
-use Rattle.host.specs.declared.Host.{Host}
-use Rattle.host.specs.declared.Sending.{Sending}
-use Rattle.host.specs.declared.Sending.the-variants as sending
-use Rattle.host.specs.declared.Turned.{Turned}
+use Rattle.host_answers.specs.declared.Host.{Host}
+use Rattle.host_answers.specs.declared.Sending.{Sending}
+use Rattle.host_answers.specs.declared.Sending.the-variants as sending
+use Rattle.host_answers.specs.declared.Turned.{Turned}
 
 -- what stands after some turns: the host, the loader with its memory, the events in order, the code of the host's first refusal and of the loader's; 0 for
 -- none, and 14, which is for one that has ended, counts on neither side

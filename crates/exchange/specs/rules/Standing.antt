@@ -8,9 +8,9 @@ use Rattle.machine_answers.specs.rules.Replies.{sentBytes}
 use Rattle.sent.specs.rules.Feeding.{State, fed, answers, replied, eventsHeard, firstOf}
 use Rattle.sent.specs.declared.Answer.{Answer}
 use Rattle.sent.specs.declared.Bus.{Bus}
-use Rattle.host.specs.rules.Hosts.{heardAll}
+use Rattle.host_answers.specs.rules.Hosts.{heardAll}
 use Rattle.host.specs.rules.Turn.{turned}
-use Rattle.host.specs.declared.Turned.{Turned}
+use Rattle.host_answers.specs.declared.Turned.{Turned}
 use Rattle.exchange.specs.rules.Exchange.{Talk, unitsSent, butEnded, firstButEnded}
 use Rattle.exchange.specs.declared.Exchanged.{Exchanged}
 use Rattle.exchange.specs.declared.Standing.{Standing}

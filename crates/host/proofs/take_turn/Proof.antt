@@ -2,7 +2,7 @@
 use borrow.Author.Needs.{needs}
 use mathlib.Core.Path.{sym, ap, _∙_}
 use denote.Ref.{now}
-use Rattle.host.specs.declared.Wait.{Wait}
+use Rattle.host_answers.specs.declared.Wait.{Wait}
 use Rattle.host.specs.rules.Turn.{inWait}
 use Rattle.host.proofs.take_turn.Statement.{statement}
 use Rattle.host.proofs.take_turn.Tie as tie
@@ -40,8 +40,8 @@ meet-requires c κs = search needs
 enum-known-wait-2 : tie.Need-enum-known-wait-2
 enum-known-wait-2 c = search needs
 
-opcode-requires : tie.Need-opcode-requires
-opcode-requires c κs = search needs
+await-acknowledgement-requires : tie.Need-await-acknowledgement-requires
+await-acknowledgement-requires c κs = search needs
 
 enum-known-wait-3 : tie.Need-enum-known-wait-3
 enum-known-wait-3 c = search needs
@@ -83,7 +83,7 @@ returns-5 c =
 returns-6 : tie.Need-returns-6
 returns-6 c =
     let a = c .before .before .before .before .before .before .args in
-    c .opcode .ensures ∙ sym (ap (λ (w : Wait). inWait w (a .host) (now (a .image))) (c .before .before .wait2 .given .1))
+    c .await-acknowledgement .ensures ∙ sym (ap (λ (w : Wait). inWait w (a .host) (now (a .image))) (c .before .before .wait2 .given .1))
 
 returns-7 : tie.Need-returns-7
 returns-7 c =
@@ -110,7 +110,7 @@ take-turn-spec =
     enum-told-4
     meet-requires
     enum-known-wait-2
-    opcode-requires
+    await-acknowledgement-requires
     enum-known-wait-3
     over-requires
     enum-told-5

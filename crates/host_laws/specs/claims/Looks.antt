@@ -15,14 +15,14 @@ use Rattle.flash_session.specs.rules.Opening.{goodLength}
 use Rattle.machine_answers.specs.rules.Replies.{oneWord, acknowledged, farewell}
 use Rattle.sent.specs.rules.Line.{startAnswer}
 use Rattle.sent.specs.rules.Opening.{greeting}
-use Rattle.host.specs.rules.Ear.{newest, endsWith, endsWithChecksum}
+use Rattle.host_ear.specs.rules.Ear.{newest, endsWith, endsWithChecksum}
 use Rattle.host.specs.rules.Turn.{turned}
-use Rattle.host.specs.declared.Host.{Host}
-use Rattle.host.specs.declared.Sending.{Sending}
-use Rattle.host.specs.declared.Sending.the-variants.{Nothing, Start, Word}
-use Rattle.host.specs.declared.Turned.{Turned}
-use Rattle.host.specs.declared.Wait.{Wait}
-use Rattle.host.specs.declared.Wait.the-variants as wait
+use Rattle.host_answers.specs.declared.Host.{Host}
+use Rattle.host_answers.specs.declared.Sending.{Sending}
+use Rattle.host_answers.specs.declared.Sending.the-variants.{Nothing, Start, Word}
+use Rattle.host_answers.specs.declared.Turned.{Turned}
+use Rattle.host_answers.specs.declared.Wait.{Wait}
+use Rattle.host_answers.specs.declared.Wait.the-variants as wait
 
 -- a choice by what the host does with a command: it asks for the checksum, it closes, its words go out, or it never goes out, as Ping and Start-Over are no
 -- commands of an image

@@ -11,13 +11,13 @@ use Rattle.opcodes.specs.declared.Dialect.{Dialect}
 use Rattle.opcodes.specs.declared.Refusal.the-variants as refusal
 use Rattle.flash_session.specs.rules.Opening.{goodLength, magic}
 use Rattle.sent.specs.declared.Bus.{Bus}
-use Rattle.host.specs.rules.Hosts.{heardAll, openedBy}
+use Rattle.host_answers.specs.rules.Hosts.{heardAll, openedBy}
 use Rattle.host.specs.rules.Turn.{turned}
 use Rattle.host_laws.specs.claims.Looks.{Fresh}
-use Rattle.host.specs.declared.Host.{Host}
-use Rattle.host.specs.declared.Opened.{Opened}
-use Rattle.host.specs.declared.Sending.the-variants.{Nothing}
-use Rattle.host.specs.declared.Wait.the-variants.{Greeting}
+use Rattle.host_answers.specs.declared.Host.{Host}
+use Rattle.host_answers.specs.declared.Opened.{Opened}
+use Rattle.host_answers.specs.declared.Sending.the-variants.{Nothing}
+use Rattle.host_answers.specs.declared.Wait.the-variants.{Greeting}
 
 -- an image's first word is good; the tries are 1 to 1,000
 abbrev pub hasMagic : List ℕ → Bool

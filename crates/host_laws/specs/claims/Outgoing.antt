@@ -15,17 +15,17 @@ use Rattle.opcodes.specs.declared.Found.the-variants.{Known}
 use Rattle.opcodes.specs.declared.Mode.the-variants.{Flash}
 use Rattle.reading.specs.rules.Reading.{argument, pastData}
 use Rattle.commands.specs.declared.Sought.the-variants.{To}
-use Rattle.host.specs.rules.Ear.{newest}
-use Rattle.host.specs.rules.Hosts.{changed}
-use Rattle.host.specs.rules.Sendings.{stretchOf}
+use Rattle.host_ear.specs.rules.Ear.{newest}
+use Rattle.host_answers.specs.rules.Hosts.{changed}
+use Rattle.host_answers.specs.rules.Sendings.{stretchOf}
 use Rattle.host.specs.rules.Turn.{turned}
 use Rattle.host_laws.specs.claims.Looks.{isRequest, isClose, isSent, rightAnswer, repeated}
 use Rattle.host_laws.specs.claims.Retries.{mismatches, soughtBy}
-use Rattle.host.specs.declared.Host.{Host}
-use Rattle.host.specs.declared.Sending.{Sending}
-use Rattle.host.specs.declared.Sending.the-variants.{Nothing, Start, Word, Stretch}
-use Rattle.host.specs.declared.Wait.{Wait}
-use Rattle.host.specs.declared.Wait.the-variants as wait
+use Rattle.host_answers.specs.declared.Host.{Host}
+use Rattle.host_answers.specs.declared.Sending.{Sending}
+use Rattle.host_answers.specs.declared.Sending.the-variants.{Nothing, Start, Word, Stretch}
+use Rattle.host_answers.specs.declared.Wait.{Wait}
+use Rattle.host_answers.specs.declared.Wait.the-variants as wait
 
 -- a command stands at an offset by the flash rows of a dialect, its arguments and data all in the image, up to an end
 pub record Stands (dialect : Dialect) (offset : ℕ) (image : List ℕ) (command : Command) (end : ℕ) : Type 0 where

@@ -14,10 +14,10 @@ use Rattle.reading.specs.declared.Read.{Read}
 use Rattle.reading.specs.declared.Read.the-variants.{Whole, Refused}
 use Rattle.host.specs.rules.Turn.{turned}
 use Rattle.host_laws.specs.claims.Looks.{isTurn, isLent}
-use Rattle.host.specs.declared.Host.{Host}
-use Rattle.host.specs.declared.Sending.the-variants.{Nothing}
-use Rattle.host.specs.declared.Turned.{Turned}
-use Rattle.host.specs.declared.Wait.the-variants as wait
+use Rattle.host_answers.specs.declared.Host.{Host}
+use Rattle.host_answers.specs.declared.Sending.the-variants.{Nothing}
+use Rattle.host_answers.specs.declared.Turned.{Turned}
+use Rattle.host_answers.specs.declared.Wait.the-variants as wait
 
 -- what an opening fixes is never changed
 pub record SameSettings (h g : Host) : Type 0 where

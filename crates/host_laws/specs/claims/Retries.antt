@@ -10,14 +10,14 @@ use Rattle.reading.specs.rules.Reading.{argument}
 use Rattle.commands.specs.rules.Commands.{soughtFrom}
 use Rattle.commands.specs.declared.Sought.{Sought}
 use Rattle.commands.specs.declared.Sought.the-variants.{To, Refused}
-use Rattle.host.specs.rules.Ear.{newest}
+use Rattle.host_ear.specs.rules.Ear.{newest}
 use Rattle.host.specs.rules.Turn.{turned}
 use Rattle.host_laws.specs.claims.Looks.{isRequest, isTurn, rightAnswer}
-use Rattle.host.specs.declared.Host.{Host}
-use Rattle.host.specs.declared.Sending.the-variants.{Nothing, Word}
-use Rattle.host.specs.declared.Turned.{Turned}
-use Rattle.host.specs.declared.Wait.{Wait}
-use Rattle.host.specs.declared.Wait.the-variants as wait
+use Rattle.host_answers.specs.declared.Host.{Host}
+use Rattle.host_answers.specs.declared.Sending.the-variants.{Nothing, Word}
+use Rattle.host_answers.specs.declared.Turned.{Turned}
+use Rattle.host_answers.specs.declared.Wait.{Wait}
+use Rattle.host_answers.specs.declared.Wait.the-variants as wait
 
 -- a Request was answered with another checksum than its first argument
 abbrev pub mismatches : Wait → Host → List ℕ → Bool

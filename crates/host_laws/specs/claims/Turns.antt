@@ -7,13 +7,13 @@ use lib.ListN.{length}
 use Rattle.opcodes.specs.rules.Answers.{accepted}
 use Rattle.opcodes.specs.declared.Dialect.{Dialect}
 use Rattle.sent.specs.declared.Bus.{Bus}
-use Rattle.host.specs.rules.Ends.{mostTurns}
-use Rattle.host.specs.rules.Hosts.{heardAll, openedBy}
+use Rattle.host_answers.specs.rules.Ends.{mostTurns}
+use Rattle.host_answers.specs.rules.Hosts.{heardAll, openedBy}
 use Rattle.host.specs.rules.Turn.{turned}
 use Rattle.host_laws.specs.claims.Looks.{isLent, isTurn}
 use Rattle.host_laws.specs.claims.Outgoing.{Awaits}
-use Rattle.host.specs.declared.Host.{Host}
-use Rattle.host.specs.declared.Opened.{Opened}
+use Rattle.host_answers.specs.declared.Host.{Host}
+use Rattle.host_answers.specs.declared.Opened.{Opened}
 
 -- some turns over one image, with what is heard before each of them
 unfoldable pub turnsOf : Host → List ℕ → List (List ℕ) → Host

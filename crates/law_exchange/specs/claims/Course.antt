@@ -15,7 +15,7 @@ use Rattle.flash_session.specs.declared.Opened.{Opened}
 use Rattle.flash_runs.specs.rules.Run.{ranFrom}
 use Rattle.flash_runs.specs.rules.Events.{eventsFrom}
 use Rattle.sent.specs.declared.Bus.{Bus}
-use Rattle.host.specs.rules.Hosts.{mostTries}
+use Rattle.host_answers.specs.rules.Hosts.{mostTries}
 use Rattle.exchange.specs.rules.Exchange.{Talk, talked, meeting}
 
 module _ (bus : Bus) (dialect : Dialect) (count : ℕ) (windows : List Window) (m image : List ℕ) (tries limit pings : ℕ) where

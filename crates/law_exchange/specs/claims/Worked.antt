@@ -15,7 +15,7 @@ use Rattle.flash_runs.specs.rules.Run.{ranFrom}
 use Rattle.sent.specs.rules.Feeding.{answers, replied}
 use Rattle.sent.specs.declared.Bus.{Bus}
 use Rattle.sent.specs.declared.Bus.the-variants.{Bytes}
-use Rattle.host.specs.rules.Hosts.{heardAll}
+use Rattle.host_answers.specs.rules.Hosts.{heardAll}
 use Rattle.host.specs.rules.Turn.{turned}
 use Rattle.exchange.specs.rules.Exchange.{Talk, unitsSent, after, onward, talked, meeting}
 use Rattle.law_exchange.specs.claims.Course.{Premises, talkAfter, exchangeTurns}

@@ -5,8 +5,8 @@ use Prim.Native.Nat.{_+_, _-_, _≤_}
 use mathlib.Core.Path.{_≡_, refl, sym, ap, _∙_}
 use native.Mathlib.Omega.{arith}
 use lib.ListN.{length, take, drop, length-take}
-use Rattle.host.specs.rules.Hosts.{heardAll}
-use Rattle.host.specs.declared.Host.{Host}
+use Rattle.host_answers.specs.rules.Hosts.{heardAll}
+use Rattle.host_answers.specs.declared.Host.{Host}
 use Rattle.exchange.proofs.Hearing.{byte-turn, all-heard}
 use Rattle.exchange.proofs.feeding.hear_all.Statement.{statement}
 use Rattle.exchange.proofs.feeding.hear_all.Tie as tie

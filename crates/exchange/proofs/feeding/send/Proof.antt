@@ -4,8 +4,8 @@ use Prim.Native.Nat.{ℕ}
 use mathlib.Core.List.{List}
 use mathlib.Core.Path.{sym, ap, _∙_}
 use Rattle.sent.specs.rules.Bus.{unitsFed}
-use Rattle.host.specs.rules.Sendings.{stretchOf}
-use Rattle.host.specs.declared.Sending.{Sending}
+use Rattle.host_answers.specs.rules.Sendings.{stretchOf}
+use Rattle.host_answers.specs.declared.Sending.{Sending}
 use Rattle.exchange.specs.rules.Exchange.{unitsSent}
 use Rattle.exchange.proofs.Hearing.{fed-as, none-fed, none-laid}
 use Rattle.exchange.proofs.feeding.send.Statement.{statement}

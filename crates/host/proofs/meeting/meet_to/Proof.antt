@@ -2,7 +2,7 @@
 use borrow.Author.Needs.{needs}
 use mathlib.Core.Path.{sym, _∙_}
 use denote.Ref.{now}
-use Rattle.host.proofs.Roles.{met-by, met-other}
+use Rattle.host.proofs.MetByRole.{met-by, met-other}
 use Rattle.host.proofs.meeting.meet_to.Statement.{statement}
 use Rattle.host.proofs.meeting.meet_to.Tie as tie
 
