@@ -134,6 +134,18 @@ uint64_t ais_host_turn(uint8_t *host, size_t host_len, const uint8_t *image, siz
 uint64_t ais_host_session(uint8_t line, uint8_t dialect, const uint8_t *map, size_t map_len, uint8_t *memory, size_t memory_len, const uint8_t *image,
                           size_t image_len, uint32_t tries, uint8_t limit, uint32_t pings);
 
+/* The same run as ais_flash_run (dialect 0) or ais_dm648_run (1), and its events: each as two little-endian words in the room, its kind (1 a wait, 3 the
+   entry) and its value (the cycles, the address), one after the other from the front. The value is refusal * 2^56 + the count of events. 19 for a dialect
+   that there is not; 23 for a room below 8 * ((limit + 1) * (image_len / 20) + 1) bytes, image_len counted up to 65,536: nothing is changed then. Else the
+   refusal is the run's. */
+uint64_t ais_flash_events(uint8_t dialect, const uint8_t *map, size_t map_len, uint8_t *memory, size_t memory_len, const uint8_t *image, size_t image_len,
+                          uint8_t limit, uint8_t *room, size_t room_len);
+
+/* The same of an exchange, as ais_host_session: 19 for a line or a dialect, 23 for the room, then 1, 2 or the host's own; with 19, 23, 1 and 2 nothing is
+   changed. The events are the loader's. */
+uint64_t ais_host_events(uint8_t line, uint8_t dialect, const uint8_t *map, size_t map_len, uint8_t *memory, size_t memory_len, const uint8_t *image,
+                         size_t image_len, uint32_t tries, uint8_t limit, uint32_t pings, uint8_t *room, size_t room_len);
+
 #ifdef __cplusplus
 }
 #endif

@@ -10,8 +10,8 @@
    It ends with status 1 at the first difference, or (unless FIRST is given) when a refusal, a command, or a way in which a wait goes on was not met at all;
    with less than 50,000 cases 1,000 tries or 255 retries may not be. */
 #include "ais.h"
-#include "cases.h"
 #include "guards.h"
+#include "host_cases.h"
 #include "plain_host.h"
 #include "plain_loader.h"
 
@@ -21,17 +21,8 @@
 #include <string.h>
 #include <time.h>
 
-enum { LINES = 2, FED_LIMIT = 65536, LARGE_EVERY = 2000, BY_TURNS_EVERY = 4 };
+enum { LINES = 2, FED_LIMIT = 65536, BY_TURNS_EVERY = 4 };
 enum { MANY_TRIES = 8, MANY_RETRIES = 3 }; /* more of these are not run turn by turn */
-enum { LEAST_TRIES = 1, MOST_TRIES = 1000, MOST_RETRIES = 255, SHORT_IMAGE = 300 };
-enum { BAD_CALL = 19, NO_ANSWER = 20 };
-
-/* An image, and what host and loader are opened with. */
-struct host_case {
-    struct bench_case bench;
-    uint32_t tries;
-    uint32_t pings;
-};
 
 /* ---- Counting ---- */
 
@@ -154,111 +145,10 @@ static bool everything_met(void)
     return is_met;
 }
 
-/* ---- Cases ---- */
-
-/* Mostly few, at times one of the last that are allowed. */
-static uint32_t choose_tries(struct random_source *random, bool is_wrong)
-{
-    static const uint32_t wrong[] = {LEAST_TRIES - 1, MOST_TRIES + 1, MOST_TRIES + 2, 65536 + 1, 0x80000001, 0xFFFFFFFF};
-
-    if (is_wrong)
-        return PICK(random, wrong);
-    if (chance(random, 1))
-        return MOST_TRIES - (chance(random, 50) ? 0 : random_below(random, 3));
-    return chance(random, 20) ? LEAST_TRIES : 2 + random_below(random, 5);
-}
-
-static uint8_t choose_limit(struct random_source *random, size_t image_length)
-{
-    return (uint8_t)(chance(random, 4) && image_length < SHORT_IMAGE ? MOST_RETRIES : random_below(random, 4));
-}
-
-static uint32_t choose_pings(struct random_source *random)
-{
-    return chance(random, 3) ? 40 : random_below(random, 6);
-}
-
-/* The salt tells the cases of talks from those of exchanges. */
-static void make_host_case(struct host_case *host_case, uint64_t seed, uint64_t number, uint64_t salt)
-{
-    struct bench_case *bench = &host_case->bench;
-    struct random_source random = random_from(seed ^ salt, number);
-    bool has_halves = number % 2 != 0, is_dm648 = number / 2 % 2 != 0, is_large = random_below(&random, LARGE_EVERY) == 0;
-    uint32_t wrong_percent = chance(&random, 3) ? 50 : 2; /* at times several things are wrong at once */
-
-    bench->seed = seed;
-    bench->number = number;
-    bench->script.random = random_from(seed ^ salt ^ 0x484F5354494D4147, number);
-    (is_large ? make_large_map : make_good_map)(&random, &bench->map);
-    begin_script(&bench->script, &bench->map, true, has_halves, is_dm648);
-    (is_large ? write_large_image : write_image)(&bench->script);
-    if (chance(&random, wrong_percent))
-        break_map(&random, &bench->map);
-    bench->memory_length = choose_memory_length(&random, &bench->map, chance(&random, wrong_percent));
-    bench->line = choose_number(&random, has_halves, chance(&random, wrong_percent));
-    bench->dialect = choose_number(&random, is_dm648, chance(&random, wrong_percent));
-    bench->limit = choose_limit(&random, bench->script.length);
-    host_case->tries = choose_tries(&random, chance(&random, wrong_percent));
-    host_case->pings = choose_pings(&random);
-}
-
-static void print_host_case(const struct host_case *host_case)
-{
-    print_case(&host_case->bench);
-    printf("line %u, dialect %u, %" PRIu32 " tries, %" PRIu32 " pings\n", host_case->bench.line, host_case->bench.dialect,
-           host_case->tries, host_case->pings);
-}
-
 /* ---- Exchanges ---- */
-
-/* What a call was lent, and what it gave back. */
-struct outcome {
-    struct lent map;
-    struct lent memory;
-    struct lent image;
-    uint64_t value;
-};
 
 /* All that was sent and replied in the exchange between the two plain ones. */
 static struct plain_stream sent, replied;
-
-static struct outcome lend_case(const struct host_case *host_case, size_t guard)
-{
-    const struct bench_case *bench = &host_case->bench;
-    struct outcome outcome = {.map = lend_copy(bench->map.bytes, bench->map.length, guard),
-                              .memory = lend(bench->memory_length, guard),
-                              .image = lend_copy(bench->script.bytes, bench->script.length, guard)};
-
-    fill_memory(bench, outcome.memory.bytes, outcome.memory.length);
-    return outcome;
-}
-
-static void free_outcome(struct outcome *outcome)
-{
-    free(outcome->map.whole);
-    free(outcome->memory.whole);
-    free(outcome->image.whole);
-}
-
-/* Whether what was lent to be read, and the guards around everything, are as they were. */
-static bool nothing_else_changed(const struct host_case *host_case, const struct outcome *outcome)
-{
-    const struct bench_case *bench = &host_case->bench;
-
-    if (guards_hold(&outcome->map) && guards_hold(&outcome->memory) && guards_hold(&outcome->image) &&
-        memcmp(outcome->map.bytes, bench->map.bytes, outcome->map.length) == 0 &&
-        memcmp(outcome->image.bytes, bench->script.bytes, outcome->image.length) == 0)
-        return true;
-    printf("bytes were changed that were lent for reading, or not lent at all\n");
-    return false;
-}
-
-static bool same_value(const char *name, uint64_t proved, uint64_t plain)
-{
-    if (proved != plain)
-        printf("%s differs: proved 0x%016" PRIX64 ", plain 0x%016" PRIX64 "\n", name, proved, plain);
-    return proved == plain;
-}
 
 /* The plain host and loader get no guards, so that the sanitizer sees the first byte too far. */
 static struct outcome run_plain(const struct host_case *host_case)
@@ -403,14 +293,6 @@ static bool same_with_proved_loader(const struct host_case *host_case, const str
     free(room.whole);
     free_outcome(&outcome);
     return is_same;
-}
-
-/* Whether the host was opened, so that something was sent or at least looked for. */
-static bool was_begun(const struct host_case *host_case, uint64_t value)
-{
-    unsigned refusal = value >> 56;
-
-    return (refusal == 0 || refusal > 4) && refusal != BAD_CALL && host_case->tries >= LEAST_TRIES && host_case->tries <= MOST_TRIES;
 }
 
 static void count_exchange(const struct host_case *host_case, uint64_t value)

@@ -17,7 +17,8 @@ enum refusal {
     HOST_ENDED = 14,
     OPCODE_RETIRED = 15,
     CALL_WRONG = 19,
-    NOT_ANSWERED = 20
+    NOT_ANSWERED = 20,
+    ROOM_TOO_SHORT = 23
 };
 
 enum { WORD = PLAIN_WORD_BYTES, REQUEST_BYTES = 3 * WORD, IMAGE_LIMIT = 65536, TRIES_LIMIT = 1000, REPLY_LIMIT = 8 };
@@ -476,26 +477,56 @@ static uint8_t talk(struct exchange *exchange, const uint8_t *image, size_t imag
     return turn.refusal;
 }
 
+/* A whole exchange on a line and in a dialect that there is; its events are told where somebody asks. */
+static uint64_t exchange_with(uint8_t line, uint8_t dialect, const uint8_t *map, size_t map_length, uint8_t *memory,
+                              size_t memory_length, const uint8_t *image, size_t image_length, uint32_t tries, uint8_t limit,
+                              uint32_t pings, struct exchange *exchange, struct plain_events *events)
+{
+    uint32_t address = 0;
+    uint8_t refusal;
+    uint64_t entered;
+
+    exchange->loader = plain_session_open(line, dialect, map, map_length, memory, memory_length, &refusal);
+    if (exchange->loader == NULL)
+        return (uint64_t)refusal << 56;
+    plain_session_tell(exchange->loader, events);
+    refusal = plain_host_open(&exchange->host, line, dialect, image, image_length, tries, limit, pings);
+    if (refusal == ACCEPTED)
+        refusal = talk(exchange, image, image_length);
+    entered = plain_session_entered(exchange->loader, &address) != 0;
+    plain_session_end(exchange->loader);
+    return (uint64_t)refusal << 56 | (uint64_t)exchange->host.retries << 48 | (uint64_t)exchange->loader_refusal << 40 |
+           entered << 32 | address;
+}
+
 uint64_t plain_host_session(uint8_t line, uint8_t dialect, const uint8_t *map, size_t map_length, uint8_t *memory,
                             size_t memory_length, const uint8_t *image, size_t image_length, uint32_t tries, uint8_t limit,
                             uint32_t pings, struct plain_stream *sent, struct plain_stream *replied)
 {
     struct exchange exchange = {.sent = sent, .replied = replied};
-    uint32_t address = 0;
-    uint8_t refusal;
-    uint64_t entered;
 
     sent->length = replied->length = 0;
     if (line > PLAIN_HALVES || dialect > PLAIN_DM648)
         return (uint64_t)CALL_WRONG << 56;
-    exchange.loader = plain_session_open(line, dialect, map, map_length, memory, memory_length, &refusal);
-    if (exchange.loader == NULL)
-        return (uint64_t)refusal << 56;
-    refusal = plain_host_open(&exchange.host, line, dialect, image, image_length, tries, limit, pings);
-    if (refusal == ACCEPTED)
-        refusal = talk(&exchange, image, image_length);
-    entered = plain_session_entered(exchange.loader, &address) != 0;
-    plain_session_end(exchange.loader);
-    return (uint64_t)refusal << 56 | (uint64_t)exchange.host.retries << 48 | (uint64_t)exchange.loader_refusal << 40 |
-           entered << 32 | address;
+    return exchange_with(line, dialect, map, map_length, memory, memory_length, image, image_length, tries, limit, pings,
+                         &exchange, NULL);
+}
+
+uint64_t plain_host_events(uint8_t line, uint8_t dialect, const uint8_t *map, size_t map_length, uint8_t *memory,
+                           size_t memory_length, const uint8_t *image, size_t image_length, uint32_t tries, uint8_t limit,
+                           uint32_t pings, uint8_t *room, size_t room_length)
+{
+    static struct plain_stream sent, replied;
+    struct exchange exchange = {.sent = &sent, .replied = &replied};
+    struct plain_events events = {.room = room, .length = room_length};
+    uint64_t value;
+
+    sent.length = replied.length = 0;
+    if (line > PLAIN_HALVES || dialect > PLAIN_DM648)
+        return (uint64_t)CALL_WRONG << 56;
+    if (room_length < plain_events_room(image_length, limit))
+        return (uint64_t)ROOM_TOO_SHORT << 56;
+    value = exchange_with(line, dialect, map, map_length, memory, memory_length, image, image_length, tries, limit, pings,
+                          &exchange, &events);
+    return value >> 56 << 56 | events.count;
 }

@@ -77,4 +77,9 @@ uint64_t plain_host_session(uint8_t line, uint8_t dialect, const uint8_t *map, s
                             size_t memory_length, const uint8_t *image, size_t image_length, uint32_t tries, uint8_t limit,
                             uint32_t pings, struct plain_stream *sent, struct plain_stream *replied);
 
+/* The same call, with the same answer, as ais_host_events. */
+uint64_t plain_host_events(uint8_t line, uint8_t dialect, const uint8_t *map, size_t map_length, uint8_t *memory,
+                           size_t memory_length, const uint8_t *image, size_t image_length, uint32_t tries, uint8_t limit,
+                           uint32_t pings, uint8_t *room, size_t room_length);
+
 #endif

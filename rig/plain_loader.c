@@ -26,6 +26,7 @@ enum refusal {
     TOTALS_DIFFER = 17,
     TOTAL_TOO_LARGE = 18,
     CALL_WRONG = 19,
+    ROOM_TOO_SHORT = 23,
     CHOICE_WRONG = 24,
     NUMBER_TOO_LARGE = 25
 };
@@ -35,6 +36,7 @@ enum right { LOAD_RIGHT = 1, SET_RIGHT = 2, ENTRY_RIGHT = 4 };
 enum { WINDOW_LIMIT = 8, WINDOW_BYTES = 12, MEMORY_LIMIT = 65536, IMAGE_LIMIT = 65536, FED_LIMIT = 65536 };
 enum { WORD_BYTES = 4, ARGUMENT_LIMIT = 4, REPLY_LIMIT = 8, GREETING_LENGTH = 6 };
 enum { CHOICE_LIMIT = 64, LARGEST_NUMBER = 65535, NUMBER_BYTES = 2, CHOICE_BYTES = 64 };
+enum { WAIT_EVENT = 1, ENTRY_EVENT = 3, EVENT_BYTES = 8, SETTING_BYTES = 20 };
 
 static const uint32_t FIRST_WORD = 0x41504954;
 static const uint32_t POLYNOMIAL = 0x04C11DB7;
@@ -364,6 +366,30 @@ static bool choice_is_right(const struct map *map, const struct watch *watch)
     return true;
 }
 
+/* ---- Events ---- */
+
+/* A pass through an image has at most so many settings, each with a wait; there is one pass more than retries, and one entry. */
+size_t plain_events_room(size_t image_length, uint8_t limit)
+{
+    size_t counted = image_length < IMAGE_LIMIT ? image_length : IMAGE_LIMIT;
+
+    return EVENT_BYTES * (((size_t)limit + 1) * (counted / SETTING_BYTES) + 1);
+}
+
+/* The next event, unless nobody asks. The room was judged before: one that is too short now was judged wrongly. */
+static void tell(struct plain_events *events, uint32_t kind, uint32_t value)
+{
+    if (events == NULL)
+        return;
+    if (events->length / EVENT_BYTES == events->count) {
+        printf("there are more events than their room may have to hold\n");
+        abort();
+    }
+    write_low_bytes(events->room + EVENT_BYTES * (size_t)events->count, kind, WORD_BYTES);
+    write_low_bytes(events->room + EVENT_BYTES * (size_t)events->count + WORD_BYTES, value, WORD_BYTES);
+    events->count++;
+}
+
 /* ---- What both modes share ---- */
 
 struct loader {
@@ -372,6 +398,7 @@ struct loader {
     struct sections sections;  /* none in AM17xx */
     const struct watch *watch; /* null where no words are chosen, and nothing is numbered */
     struct history history;
+    struct plain_events *events; /* null where nobody asks for them */
     bool has_requested; /* sent mode: the last opcode was a Request, after which a retry may still come */
     uint8_t *memory;
     uint32_t checksum;
@@ -582,6 +609,7 @@ static enum refusal boot_table(struct loader *loader, const uint32_t *arguments)
         data = put_field(read_word(loader->memory + place), data, start, stop);
     write_low_bytes(loader->memory + place, data, unit);
     add_written(loader, address, unit, is_field ? field_ones(start, stop) << start : 0xFFFFFFFF);
+    tell(loader->events, WAIT_EVENT, arguments[3]);
     return ACCEPTED;
 }
 
@@ -603,6 +631,7 @@ static enum refusal jump_and_close(struct loader *loader, const uint32_t *argume
     loader->ended = true;
     loader->entered = true;
     loader->entry_address = address;
+    tell(loader->events, ENTRY_EVENT, address);
     return ACCEPTED;
 }
 
@@ -746,10 +775,11 @@ static enum refusal flash_opening(struct flash_run *run, const uint8_t *map, siz
     return ACCEPTED;
 }
 
-static uint64_t run_in(unsigned dialect, const struct watch *watch, const uint8_t *map, size_t map_length,
-                       uint8_t *memory, size_t memory_length, const uint8_t *image, size_t image_length, uint8_t limit)
+static uint64_t run_in(unsigned dialect, const struct watch *watch, struct plain_events *events, const uint8_t *map,
+                       size_t map_length, uint8_t *memory, size_t memory_length, const uint8_t *image, size_t image_length,
+                       uint8_t limit)
 {
-    struct flash_run run = {.loader = {.dialect = dialect, .watch = watch, .memory = memory},
+    struct flash_run run = {.loader = {.dialect = dialect, .watch = watch, .events = events, .memory = memory},
                             .image = image,
                             .length = image_length,
                             .offset = WORD_BYTES,
@@ -776,13 +806,13 @@ static uint64_t run_in(unsigned dialect, const struct watch *watch, const uint8_
 uint64_t plain_flash_run(const uint8_t *map, size_t map_length, uint8_t *memory, size_t memory_length,
                          const uint8_t *image, size_t image_length, uint8_t limit)
 {
-    return run_in(PLAIN_AM17XX, NULL, map, map_length, memory, memory_length, image, image_length, limit);
+    return run_in(PLAIN_AM17XX, NULL, NULL, map, map_length, memory, memory_length, image, image_length, limit);
 }
 
 uint64_t plain_dm648_run(const uint8_t *map, size_t map_length, uint8_t *memory, size_t memory_length,
                          const uint8_t *image, size_t image_length, uint8_t limit)
 {
-    return run_in(PLAIN_DM648, NULL, map, map_length, memory, memory_length, image, image_length, limit);
+    return run_in(PLAIN_DM648, NULL, NULL, map, map_length, memory, memory_length, image, image_length, limit);
 }
 
 uint64_t plain_bits_run(uint8_t dialect, const uint8_t *map, size_t map_length, const uint8_t *chosen,
@@ -794,7 +824,21 @@ uint64_t plain_bits_run(uint8_t dialect, const uint8_t *map, size_t map_length, 
     plain_fetched = 0;
     if (dialect >= PLAIN_DIALECTS)
         return (uint64_t)CALL_WRONG << 56;
-    return run_in(dialect, &watch, map, map_length, memory, memory_length, image, image_length, limit);
+    return run_in(dialect, &watch, NULL, map, map_length, memory, memory_length, image, image_length, limit);
+}
+
+uint64_t plain_flash_events(uint8_t dialect, const uint8_t *map, size_t map_length, uint8_t *memory, size_t memory_length,
+                            const uint8_t *image, size_t image_length, uint8_t limit, uint8_t *room, size_t room_length)
+{
+    struct plain_events events = {.room = room, .length = room_length};
+    uint64_t value;
+
+    if (dialect >= PLAIN_DIALECTS)
+        return (uint64_t)CALL_WRONG << 56;
+    if (room_length < plain_events_room(image_length, limit))
+        return (uint64_t)ROOM_TOO_SHORT << 56;
+    value = run_in(dialect, NULL, &events, map, map_length, memory, memory_length, image, image_length, limit);
+    return value >> 56 << 56 | events.count;
 }
 
 /* ---- Sent mode ---- */
@@ -1119,6 +1163,11 @@ plain_session *plain_session_open(uint8_t line, uint8_t dialect, const uint8_t *
         return session;
     plain_session_end(session);
     return NULL;
+}
+
+void plain_session_tell(plain_session *session, struct plain_events *events)
+{
+    session->loader.events = events;
 }
 
 unsigned plain_session_feed(plain_session *session, const uint8_t *unit, uint8_t *room, uint8_t *refusal)

@@ -46,11 +46,23 @@ uint64_t plain_bits_run(uint8_t dialect, const uint8_t *map, size_t map_length, 
                         size_t chosen_length, uint8_t *memory, size_t memory_length, uint8_t *numbers,
                         size_t numbers_length, const uint8_t *image, size_t image_length, uint8_t limit);
 
+uint64_t plain_flash_events(uint8_t dialect, const uint8_t *map, size_t map_length, uint8_t *memory, size_t memory_length,
+                            const uint8_t *image, size_t image_length, uint8_t limit, uint8_t *room, size_t room_length);
+
+/* The events so far, in order, each as two words in the room, and the bytes of room that those of an image may need. */
+struct plain_events {
+    uint8_t *room;
+    size_t length;
+    uint32_t count;
+};
+size_t plain_events_room(size_t image_length, uint8_t limit);
+
 /* A session of sent mode, unit by unit, for a host on the other end of the line. The opening is refused with 1 or 2, and there
    is none then. A unit is lent as its bytes, and its reply goes to a room of eight; the count is given back. */
 typedef struct sent_session plain_session;
 plain_session *plain_session_open(uint8_t line, uint8_t dialect, const uint8_t *map, size_t map_length, uint8_t *memory,
                                   size_t memory_length, uint8_t *refusal);
+void plain_session_tell(plain_session *session, struct plain_events *events); /* tells its events from now on */
 unsigned plain_session_feed(plain_session *session, const uint8_t *unit, uint8_t *room, uint8_t *refusal);
 int plain_session_entered(const plain_session *session, uint32_t *address); /* the address where it has entered */
 void plain_session_end(plain_session *session);

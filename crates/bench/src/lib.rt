@@ -1,4 +1,5 @@
 // The bench's entries for C: whole sessions on byte slices, answered by one number.
+pub mod events;
 pub mod hosts;
 pub mod registers;
 
@@ -210,7 +211,18 @@ fn bits_from(
     let count = choice.chosen.count;
     let places = choice.chosen.places;
     let mut offsets = [0u8; 0];
-    report(flash_runs::run_from(opened, count, &places, memory, image, numbers, &mut offsets))
+    let mut room = [0u8; 0];
+    let ran = flash_runs::run_from(
+        opened,
+        count,
+        &places,
+        memory,
+        image,
+        numbers,
+        &mut offsets,
+        &mut room,
+    );
+    report(ran.called)
 }
 
 // One whole flash run in a dialect by number, with the numbers of chosen words beside it.

@@ -138,13 +138,13 @@ module _ (line dialect : ℕ) (map memory image : List ℕ) (tries limit pings :
   pub exchanged-call : {q : Refusal} {bus : Bus} {family : Dialect} {count : ℕ} {windows : List Window} {e : Exchanged} {value : ℕ} {left : List ℕ}
       → q ≡ exchangeRefused line dialect map (length memory) → codeOf q ≡ 0
       → bus ≡ lineOf line → family ≡ dialectOf dialect → count ≡ countOf map → windows ≡ windowsOf map
-      → e ≡ outcomeOf (exchanged (meeting bus family count windows memory image tries limit pings) image)
+      → e ≡ outcomeOf 0 (exchanged (meeting bus family count windows memory image tries limit pings) image)
       → left ≡ exchanged (meeting bus family count windows memory image tries limit pings) image .loader .memory
       → value ≡ exchangeValue e
       → leaving value left ≡ exchangeSession line dialect map memory image tries limit pings
   exchanged-call q none b d c w e l v =
       let whole = same-meeting b d c w in
-      same-call (v ∙ ap exchangeValue (e ∙ ap (λ (t : Talk). outcomeOf (exchanged t image)) whole))
+      same-call (v ∙ ap exchangeValue (e ∙ ap (λ (t : Talk). outcomeOf 0 (exchanged t image)) whole))
       (l ∙ ap (λ (t : Talk). exchanged t image .loader .memory) whole)
       ∙ exchanges line dialect map memory image tries limit pings (ap codeOf (sym q) ∙ none)
     where

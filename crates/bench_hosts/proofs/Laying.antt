@@ -1,17 +1,15 @@
 -- Numbers of commands and waits, and a host laid into bytes: words and bytes stored one after the other are the host written out.
-use Prim.Native.Nat.{ℕ, suc, _+_, _≤_}
-use mathlib.Core.List.{List, [], _∷_, _++_}
+use Prim.Native.Nat.{ℕ}
+use mathlib.Core.List.{List, [], _++_}
 use mathlib.Core.Logic.{_≢_}
-use mathlib.Core.Path.{_≡_, refl, sym, ap, _∙_}
+use mathlib.Core.Path.{_≡_, sym, ap, _∙_}
 use native.Mathlib.Omega.{arith}
-use lib.ListN.{length, set, drop}
+use lib.ListN.{length, drop}
 use lib.Seq.{sets, sets-eq, drop-length}
 use borrow.Author.Tests.{eq-eqb, ne-eqb}
-use Rattle.words.specs.rules.Bytes.{byte, put, written, wordsBytes}
+use Rattle.words.specs.rules.Bytes.{wordsBytes}
 use Rattle.words.specs.rules.Choice.{pick}
-use Rattle.words.specs.declared.Unit.the-variants.{Four}
 use Rattle.words.proofs.Choice.{chosen, passed}
-use Rattle.words.proofs.Units.{write-done}
 use Rattle.opcodes.specs.declared.Command.{Command}
 use Rattle.opcodes.specs.declared.Command.the-variants.{SequentialRead}
 use Rattle.host_answers.specs.declared.Host.{Host}
@@ -30,18 +28,6 @@ pub other-wait : (n : ℕ) (command : Command) (value : ℕ) → n ≢ 0 → n �
 unfolding waitOf pick
 other-wait n command value a b c d e f g =
     rw (ne-eqb n 0 a, ne-eqb n 1 b, ne-eqb n 2 c, ne-eqb n 3 d, ne-eqb n 4 e, ne-eqb n 5 f, ne-eqb n 6 g)
-
--- four bytes stored at the same places
-four-set : (m : List ℕ) (w x y z : ℕ) {a b c d a₁ b₁ c₁ d₁ : ℕ} → a ≡ a₁ → b ≡ b₁ → c ≡ c₁ → d ≡ d₁
-    → set (set (set (set m a w) b x) c y) d z ≡ set (set (set (set m a₁ w) b₁ x) c₁ y) d₁ z
-four-set m w x y z e f g h = rw (e, f, g, h) refl
-
--- a word that fits, byte by byte
-pub word-laid : (m : List ℕ) (at word : ℕ) → at + 4 ≤ length m → written m at Four word ≡ sets m at (wordsBytes (word ∷ []))
-unfolding put
-word-laid m at word fits =
-    sym (write-done m at Four word fits .1)
-    ∙ four-set m (byte word 0) (byte word 1) (byte word 2) (byte word 3) {d₁ = suc (suc (suc at))} (omega arith) (omega arith) (omega arith) (omega arith)
 
 -- another length than a host's
 pub not-laid : (m : List ℕ) (h : Host) → length m ≢ hostBytes → m ≡ hostLaid m h

@@ -26,7 +26,7 @@ use opcodes::Event;
 use opcodes::Refusal;
 
 // Are a line and a dialect 0 or 1?
-fn are_named(line: u8, dialect: u8) -> bool
+pub fn are_named(line: u8, dialect: u8) -> bool
     ensures { λ r. ⌜ r ≡ areNamed line dialect ⌝ }
 {
     if line <= 1 {
@@ -148,7 +148,7 @@ fn exchange_value(exchanged: Exchanged) -> u64
 }
 
 // Why an exchange does not begin.
-fn bar(line: u8, dialect: u8, map: &[u8], lent: usize) -> Refusal
+pub fn bar(line: u8, dialect: u8, map: &[u8], lent: usize) -> Refusal
     ensures { λ r. ⌜ r ≡ exchangeRefused line dialect (now (map .entry)) lent ⌝ }
 {
     if !are_named(line, dialect) {
@@ -185,6 +185,7 @@ pub fn exchange_session(
         return refuse(refusal);
     }
     let bus = bench_sessions::line_of(line);
+    let mut room = [0u8; 0];
     let exchanged = exchange::exchange(
         bus,
         bench_sessions::dialect_of(dialect),
@@ -195,6 +196,7 @@ pub fn exchange_session(
         tries,
         limit,
         pings,
+        &mut room,
     );
     exchange_value(exchanged)
 }

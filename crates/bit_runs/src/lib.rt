@@ -75,7 +75,8 @@ pub fn run(
     let chosen = choice.chosen;
     let places = chosen.places;
     let opened = Session::open_numbering(Dialect::Am17xx, 1, windows, image, 0);
-    let called = flash_runs::run_from(
+    let mut room = [0u8; 0];
+    let ran = flash_runs::run_from(
         opened,
         chosen.count,
         &places,
@@ -83,6 +84,7 @@ pub fn run(
         image,
         numbers,
         offsets,
+        &mut room,
     );
-    ended_by(called, chosen)
+    ended_by(ran.called, chosen)
 }

@@ -21,7 +21,7 @@ use Rattle.bench_sessions.specs.rules.Numbers.{Watched, watched}
 use Rattle.claims.proofs.Uniqueness.{Coincide, OneResult, OneMemory, same, both-same}
 
 -- two outcomes that are one agree in their parts
-same-parts : {v w : ℕ} {m n room rest : List ℕ} {x : SessionOutcome} → outcome v m room ≡ x → outcome w n rest ≡ x → (v ≡ w) × ((m ≡ n) × (room ≡ rest))
+pub same-parts : {v w : ℕ} {m n room rest : List ℕ} {x : SessionOutcome} → outcome v m room ≡ x → outcome w n rest ≡ x → (v ≡ w) × ((m ≡ n) × (room ≡ rest))
 same-parts p q =
     let one = same p q in
     (ap (λ (o : SessionOutcome). o .value) one, (ap (λ (o : SessionOutcome). o .memory) one, ap (λ (o : SessionOutcome). o .room) one))

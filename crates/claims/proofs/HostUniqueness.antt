@@ -34,7 +34,6 @@ use Rattle.host_answers.proofs.answers.again.Reads as host-again
 use Rattle.host_commands.proofs.role_of.Reads as role_of
 use Rattle.host_commands.proofs.await_acknowledgement.Reads as await_acknowledgement
 use Rattle.host.proofs.turn.Reads as host-turn
-use Rattle.exchange.proofs.exchange.Reads as exchange
 use Rattle.bench_sessions.proofs.line_of.Reads as line_of
 use Rattle.bench_hosts.proofs.layout.flag.Reads as flag
 use Rattle.bench_hosts.proofs.layout.write_host.Reads as write_host
@@ -43,12 +42,14 @@ use Rattle.bench_hosts.proofs.open_host.Reads as opening-of-host
 use Rattle.bench_hosts.proofs.hear_host.Reads as hear_host
 use Rattle.bench_hosts.proofs.turn_host.Reads as turn_host
 use Rattle.bench_hosts.proofs.exchange_session.Reads as exchange_session
+use Rattle.bench_hosts.proofs.are_named.Reads as are_named
+use Rattle.bench_hosts.proofs.bar.Reads as exchange-bar
 use Rattle.bench_hosts.specs.rules.HostCalls.{CallOutcome, leaving}
 use Rattle.bench.proofs.hosts.ais_host_open.Reads as opening-for-c
 use Rattle.bench.proofs.hosts.ais_host_hear.Reads as ais_host_hear
 use Rattle.bench.proofs.hosts.ais_host_turn.Reads as ais_host_turn
 use Rattle.bench.proofs.hosts.ais_host_session.Reads as ais_host_session
-use Rattle.claims.proofs.Uniqueness.{Coincide, OneResult, OneMemory, OneResultAndMemory, same, both-same}
+use Rattle.claims.proofs.Uniqueness.{Coincide, OneResult, OneMemory, OneResultAndMemory, same}
 
 -- two outcomes that are one agree in both parts
 same-call : {v w : ℕ} {m n : List ℕ} {x : CallOutcome} → leaving v m ≡ x → leaving w n ≡ x → (v ≡ w) × (m ≡ n)
@@ -150,10 +151,6 @@ await-acknowledgement-unique κs a r s e f = same
 pub host-turn-unique : OneResult host-turn.Post
 host-turn-unique κs a r s e f = same
 
--- exchange
-pub exchange-unique : OneResultAndMemory exchange.Post (λ κs e. now (e .1 .1 .1 .1 .0))
-exchange-unique κs a r s e f = both-same
-
 -- a host as bytes
 pub line-of-unique : OneResult line_of.Post
 line-of-unique κs a r s e f = same
@@ -176,6 +173,12 @@ hear-host-unique κs a r s e f = same-call
 
 pub turn-host-unique : OneResultAndMemory turn_host.Post (λ κs e. now (e .0))
 turn-host-unique κs a r s e f = same-call
+
+pub are-named-unique : OneResult are_named.Post
+are-named-unique κs a r s e f = same
+
+pub exchange-bar-unique : OneResult exchange-bar.Post
+exchange-bar-unique κs a r s e f = same
 
 pub exchange-session-unique : OneResultAndMemory exchange_session.Post (λ κs e. now (e .1 .1 .1 .0))
 exchange-session-unique κs a r s e f = same-call

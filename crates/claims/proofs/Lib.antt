@@ -1,4 +1,5 @@
 pub mod BitsUniqueness
+pub mod EventUniqueness
 pub mod FeedingUniqueness
 pub mod FlashUniqueness
 pub mod HostUniqueness

@@ -1,10 +1,9 @@
--- Two results that meet one contract of choosing, stamping, a watched step or a watched run coincide, as for every other public function (`Uniqueness`), and so
+-- Two results that meet one contract of choosing, stamping or a watched step coincide, as for every other public function (`Uniqueness`), and so
 -- do the memories and the entries at exit.
 use mathlib.Core.Path.{_≡_}
 use denote.Ref.{now}
 use Rattle.bit_choice.proofs.choose.Reads as choose
 use Rattle.bit_stamps.proofs.stamp.Reads as stamp
-use Rattle.flash_runs.proofs.run_from.Reads as run_from
 use Rattle.bit_watch.proofs.step_at.Reads as step_at
 use Rattle.claims.proofs.Uniqueness.{Coincide, OneResult, OneMemory, same, both-same}
 
@@ -17,9 +16,3 @@ stamp-unique κs a r s e f = same
 pub watched-step-at-unique : Coincide step_at.Post
     (λ κs r s e f. (r ≡ s) × ((now (e .1 .1 .1 .0) ≡ now (f .1 .1 .1 .0)) × (now (e .1 .1 .1 .1 .0) ≡ now (f .1 .1 .1 .1 .0))))
 watched-step-at-unique κs a r s e f p q = (same (p .0) (q .0), both-same (p .1) (q .1))
-
-pub run-from-unique : Coincide run_from.Post
-    (λ κs r s e f. (r ≡ s)
-    × ((now (e .1 .1 .1 .0) ≡ now (f .1 .1 .1 .0))
-    × ((now (e .1 .1 .1 .1 .1 .0) ≡ now (f .1 .1 .1 .1 .1 .0)) × (now (e .1 .1 .1 .1 .1 .1 .0) ≡ now (f .1 .1 .1 .1 .1 .1 .0)))))
-run-from-unique κs a r s e f p q = (same (p .0) (q .0), (same (p .1 .0) (q .1 .0), both-same (p .1 .1) (q .1 .1)))

@@ -13,6 +13,8 @@ use Rattle.words.specs.rules.Bytes.{byte}
 use Rattle.words.proofs.Choice.{chosen, passed, by-test}
 use Rattle.opcodes.specs.rules.Answers.{told}
 use Rattle.opcodes.specs.declared.Event.{Event}
+use Rattle.event_room.specs.rules.Room.{placeAfter, roomAfter}
+use Rattle.event_room.proofs.Writing.{length-after, place-joined, room-joined}
 use Rattle.sent.specs.rules.Bus.{startUnit, unitsOf, unitsFed, halvesOf}
 use Rattle.sent.specs.rules.Feeding.{heard, fed, answers, replied, eventsHeard, firstOf}
 use Rattle.sent.specs.rules.Line.{unitStep}
@@ -25,7 +27,7 @@ use Rattle.host_answers.specs.rules.Hosts.{heardAll}
 use Rattle.host_answers.specs.rules.Hosts as hosts
 use Rattle.host_answers.specs.declared.Host.{Host}
 use Rattle.exchange.specs.rules.Exchange.{butEnded, firstButEnded}
-use Rattle.exchange.specs.rules.Standing.{lastAfter, noted, standingFed, memoryFed}
+use Rattle.exchange.specs.rules.Standing.{lastAfter, noted, standingFed, memoryFed, roomFed}
 use Rattle.exchange.specs.declared.Standing.{Standing}
 
 -- hearing some bytes and then others
@@ -80,68 +82,94 @@ module _ (first code : ℕ) where
   counts-code e f = sym (chosen _ _ _ (eq-eqb first 0 e) ∙ passed _ _ _ (ne-eqb code 14 f))
 
 -- standings that agree in all parts
-same-standing : {h h₁ : Host} {x : Session} {e e₁ : Event} {q r r₁ : ℕ} → h ≡ h₁ → e ≡ e₁ → r ≡ r₁
-    → _≡_ {A = Standing} (record { host = h; session = x; event = e; refusal = q; refused = r })
-    (record { host = h₁; session = x; event = e₁; refusal = q; refused = r₁ })
-same-standing a b c = rw (a, b, c) refl
+same-standing : {h h₁ : Host} {x : Session} {e e₁ : Event} {q r r₁ p p₁ : ℕ} → h ≡ h₁ → e ≡ e₁ → r ≡ r₁ → p ≡ p₁
+    → _≡_ {A = Standing} (record { host = h; session = x; event = e; refusal = q; refused = r; told = p })
+    (record { host = h₁; session = x; event = e₁; refusal = q; refused = r₁; told = p₁ })
+same-standing a b c d = rw (a, b, c, d) refl
 
-module _ (bus : Bus) (s : Standing) (m units : List ℕ) (i : ℕ) (inside : i < length units) where
+module _ (bus : Bus) (s : Standing) (m room units : List ℕ) (i : ℕ) (inside : i < length units) where
   abbrev u : ℕ
   u = getD units i 0
 
   -- a unit fed, and those after it left to feed
-  fed-turn : standingFed bus (noted s (unitStep bus (s .session) m u .answer)) (unitStep bus (s .session) m u .memory) (drop (i + 1) units)
-      ≡ standingFed bus s m (drop i units)
+  fed-turn : (size : ℕ)
+      → standingFed size bus (noted size s (unitStep bus (s .session) m u .answer)) (unitStep bus (s .session) m u .memory) (drop (i + 1) units)
+      ≡ standingFed size bus s m (drop i units)
   unfolding standingFed fed answers replied eventsHeard firstButEnded
-  fed-turn =
+  fed-turn size =
       rw (add-one, drop-cons units i 0 inside)
-      (same-standing (sym (heard-append (s .host) _ _)) (sym (last-append (s .event) _ _)) (sym (first-first (s .refused) _ _)))
+      (same-standing (sym (heard-append (s .host) _ _)) (sym (last-append (s .event) _ _)) (sym (first-first (s .refused) _ _))
+      (sym (place-joined size (s .told) _ _)))
 
-  memory-turn : memoryFed bus (noted s (unitStep bus (s .session) m u .answer)) (unitStep bus (s .session) m u .memory) (drop (i + 1) units)
+  memory-turn : memoryFed bus (noted (length room) s (unitStep bus (s .session) m u .answer)) (unitStep bus (s .session) m u .memory) (drop (i + 1) units)
       ≡ memoryFed bus s m (drop i units)
   unfolding memoryFed fed
   memory-turn = rw (add-one, drop-cons units i 0 inside)
 
-  -- both, by what the code has
-  pub feeds : {a : Answer} {next : Standing} {left : List ℕ} → a ≡ unitStep bus (s .session) m u .answer → left ≡ unitStep bus (s .session) m u .memory
-      → next ≡ noted s a
-      → (standingFed bus next left (drop (i + 1) units) ≡ standingFed bus s m (drop i units))
-      × (memoryFed bus next left (drop (i + 1) units) ≡ memoryFed bus s m (drop i units))
-  feeds {a} {next} e f g =
-      let after : next ≡ noted s (unitStep bus (s .session) m u .answer) = g ∙ ap (λ (x : Answer). noted s x) e in (
-        ap₂ (λ (x : Standing) (l : List ℕ). standingFed bus x l (drop (i + 1) units)) after f ∙ fed-turn,
-        ap₂ (λ (x : Standing) (l : List ℕ). memoryFed bus x l (drop (i + 1) units)) after f ∙ memory-turn,
+  room-turn : roomFed bus (noted (length room) s (unitStep bus (s .session) m u .answer)) (unitStep bus (s .session) m u .memory)
+      (roomAfter room (s .told) (told (unitStep bus (s .session) m u .answer .event))) (drop (i + 1) units)
+      ≡ roomFed bus s m room (drop i units)
+  unfolding roomFed fed answers eventsHeard
+  room-turn = rw (add-one, drop-cons units i 0 inside) (sym (room-joined room (s .told) _ _))
+
+  -- all three, by what the code has
+  pub feeds : {a : Answer} {next : Standing} {left laid : List ℕ} → a ≡ unitStep bus (s .session) m u .answer → left ≡ unitStep bus (s .session) m u .memory
+      → (next ≡ noted (length room) s a) × (laid ≡ roomAfter room (s .told) (told (a .event)))
+      → (standingFed (length laid) bus next left (drop (i + 1) units) ≡ standingFed (length room) bus s m (drop i units))
+      × ((memoryFed bus next left (drop (i + 1) units) ≡ memoryFed bus s m (drop i units))
+      × (roomFed bus next left laid (drop (i + 1) units) ≡ roomFed bus s m room (drop i units)))
+  feeds {a} {next} {left} {laid} e f g =
+      let rest = drop (i + 1) units in
+      let answer = unitStep bus (s .session) m u .answer in
+      let after : next ≡ noted (length room) s answer = g .0 ∙ ap (λ (x : Answer). noted (length room) s x) e in
+      let lent : laid ≡ roomAfter room (s .told) (told (answer .event)) = g .1 ∙ ap (λ (x : Answer). roomAfter room (s .told) (told (x .event))) e in
+      let size : length laid ≡ length room = ap length lent ∙ length-after room (s .told) (told (answer .event)) in (
+        ap (λ (k : ℕ). standingFed k bus next left rest) size
+            ∙ ap₂ (λ (x : Standing) (l : List ℕ). standingFed (length room) bus x l rest) after f
+            ∙ fed-turn (length room),
+        (
+          ap₂ (λ (x : Standing) (l : List ℕ). memoryFed bus x l rest) after f ∙ memory-turn,
+          ap (λ (l : List ℕ). roomFed bus next left l rest) lent
+              ∙ ap₂ (λ (x : Standing) (l : List ℕ). roomFed bus x l (roomAfter room (s .told) (told (answer .event))) rest) after f
+              ∙ room-turn,
+        ),
       )
 
 -- nothing left to feed
-pub all-fed : (bus : Bus) (s : Standing) (m units : List ℕ) (i : ℕ) → i ≡ length units → standingFed bus s m (drop i units) ≡ s
-unfolding standingFed fed answers replied eventsHeard firstButEnded heardAll lastAfter
-all-fed bus s m units i e = rw (e, drop-length) (same-standing refl refl (first-none (s .refused)))
+pub all-fed : (size : ℕ) (bus : Bus) (s : Standing) (m units : List ℕ) (i : ℕ) → i ≡ length units → standingFed size bus s m (drop i units) ≡ s
+unfolding standingFed fed answers replied eventsHeard firstButEnded heardAll lastAfter placeAfter
+all-fed size bus s m units i e = rw (e, drop-length) (same-standing refl refl (first-none (s .refused)) refl)
 
 pub all-laid : (bus : Bus) (s : Standing) (m units : List ℕ) (i : ℕ) → i ≡ length units → memoryFed bus s m (drop i units) ≡ m
 unfolding memoryFed fed
 all-laid bus s m units i e = rw (e, drop-length)
 
--- no unit at all
-pub none-fed : (bus : Bus) (s : Standing) (m : List ℕ) → s ≡ standingFed bus s m []
-unfolding standingFed fed answers replied eventsHeard firstButEnded heardAll lastAfter
-none-fed bus s m = same-standing refl refl (sym (first-none (s .refused)))
+pub all-told : (bus : Bus) (s : Standing) (m room units : List ℕ) (i : ℕ) → i ≡ length units → roomFed bus s m room (drop i units) ≡ room
+unfolding roomFed fed answers eventsHeard roomAfter
+all-told bus s m room units i e = rw (e, drop-length)
 
-pub none-laid : (bus : Bus) (s : Standing) (m : List ℕ) → m ≡ memoryFed bus s m []
-unfolding memoryFed fed
-none-laid bus s m = refl
+-- what stands after some units, with the memory and the room
+abbrev pub Fed : Bus → Standing → List ℕ → List ℕ → List ℕ → Standing → List ℕ → List ℕ → Type 0
+Fed bus s m room units next left laid =
+    (next ≡ standingFed (length room) bus s m units) × ((left ≡ memoryFed bus s m units) × (laid ≡ roomFed bus s m room units))
+
+-- no unit at all
+pub none-fed : (bus : Bus) (s : Standing) (m room : List ℕ) → Fed bus s m room [] s m room
+unfolding standingFed memoryFed roomFed fed answers replied eventsHeard firstButEnded heardAll lastAfter placeAfter roomAfter
+none-fed bus s m room = (same-standing refl refl (sym (first-none (s .refused))) refl, (refl, refl))
 
 -- the same units under another name
-pub fed-as : (bus : Bus) (s : Standing) (m : List ℕ) {units same left : List ℕ} {next : Standing} → units ≡ same
-    → (next ≡ standingFed bus s m units) × (left ≡ memoryFed bus s m units) → (next ≡ standingFed bus s m same) × (left ≡ memoryFed bus s m same)
-fed-as bus s m e told =
-    (told .0 ∙ ap (λ (l : List ℕ). standingFed bus s m l) e, told .1 ∙ ap (λ (l : List ℕ). memoryFed bus s m l) e)
+pub fed-as : (bus : Bus) (s : Standing) (m room : List ℕ) {units same left laid : List ℕ} {next : Standing} → units ≡ same
+    → Fed bus s m room units next left laid → Fed bus s m room same next left laid
+fed-as bus s m room e after = (
+  after .0 ∙ ap (λ (l : List ℕ). standingFed (length room) bus s m l) e,
+  (after .1 .0 ∙ ap (λ (l : List ℕ). memoryFed bus s m l) e, after .1 .1 ∙ ap (λ (l : List ℕ). roomFed bus s m room l) e),
+)
 
 -- the start unit of a line that is known
-pub start-fed : (s : Standing) (m : List ℕ) {bus line : Bus} {left : List ℕ} {next : Standing} → bus ≡ line
-    → (next ≡ standingFed line s m (startUnit line ∷ [])) × (left ≡ memoryFed line s m (startUnit line ∷ []))
-    → (next ≡ standingFed bus s m (startUnit bus ∷ [])) × (left ≡ memoryFed bus s m (startUnit bus ∷ []))
-start-fed s m e told = rw e told
+pub start-fed : (s : Standing) (m room : List ℕ) {bus line : Bus} {left laid : List ℕ} {next : Standing} → bus ≡ line
+    → Fed line s m room (startUnit line ∷ []) next left laid → Fed bus s m room (startUnit bus ∷ []) next left laid
+start-fed s m room e after = rw e after
 
 -- halves are two bytes each
 pub half-count : (bytes : List ℕ) → length bytes / 2 ≡ length (unitsFed Halves bytes)

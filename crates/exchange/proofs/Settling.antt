@@ -14,6 +14,8 @@ use Rattle.windows.specs.declared.Window.{Window}
 use Rattle.opcodes.specs.declared.Dialect.{Dialect}
 use Rattle.opcodes.specs.declared.Event.{Event}
 use Rattle.opcodes.specs.declared.Refusal.the-variants as refusal
+use Rattle.event_room.specs.rules.Room.{placeAfter, roomAfter}
+use Rattle.event_room.proofs.Writing.{length-after, place-joined, room-joined}
 use Rattle.flash_session.specs.rules.Opening.{goodLength}
 use Rattle.sent.specs.rules.Feeding.{State, fed, answers, replied, eventsHeard}
 use Rattle.sent.specs.declared.Bus.{Bus}
@@ -30,7 +32,17 @@ use Rattle.host_answers.specs.declared.Turned.{Turned}
 use Rattle.host_laws.proofs.RefusalLaws.{keeps-settings}
 use Rattle.host_laws.proofs.FewerLaws.{each-turn-counts}
 use Rattle.exchange.specs.rules.Exchange.{Talk, unitsSent, firstButEnded, after, onward, talked, meeting, exchanged}
-use Rattle.exchange.specs.rules.Standing.{outcomeOf, standingOf, standingFed, memoryFed, standingOnward, memoryOnward}
+use Rattle.exchange.specs.rules.Standing.{
+  outcomeOf,
+  standingOf,
+  leftBy,
+  standingFed,
+  memoryFed,
+  roomFed,
+  standingOnward,
+  memoryOnward,
+  roomOnward,
+}
 use Rattle.exchange.specs.declared.Standing.{Standing}
 use Rattle.exchange.proofs.Hearing.{last-append, first-none}
 
@@ -84,7 +96,7 @@ module _ (image : List ℕ) where
       ap (λ (n : ℕ). goodLength (length image) && eqb (length image) n) same ∙ lent running
 
   -- as many turns as are left, or more, have the same end
-  same-end : (n m : ℕ) (t : Talk) → Lent (t .host) image → mostTurns (t .host) ≤ n → mostTurns (t .host) ≤ m → talked n t image ≡ talked m t image
+  pub same-end : (n m : ℕ) (t : Talk) → Lent (t .host) image → mostTurns (t .host) ≤ n → mostTurns (t .host) ≤ m → talked n t image ≡ talked m t image
   unfolding talked
   same-end zero m t lent a b =
       by-test (t .host .ended) (λ e. sym (rests m t e)) (λ e. absurd (omega (arith, fewer t e lent)))
@@ -103,61 +115,87 @@ module _ (image : List ℕ) where
       same-end (mostTurns (onward t image .host)) n (onward t image) (stays-lent t running lent) (le-refl _) (omega (arith, fewer t running lent))
 
   -- what is kept of a talk goes on as the talk does
-  standing-onward : (t : Talk) → standingOf (onward t image) ≡ standingOnward (standingOf t) (t .loader .memory) image
+  standing-onward : (size : ℕ) (t : Talk) → standingOf size (onward t image) ≡ standingOnward size (standingOf size t) (t .loader .memory) image
   unfolding onward standingOnward standingFed
-  standing-onward t = same-event (last-append _ (t .events) _)
+  standing-onward size t = same-events (last-append _ (t .events) _) (place-joined size 0 (t .events) _)
     where
-      same-event : {h : Host} {x : Session} {e e₁ : Event} {q r : ℕ} → e ≡ e₁
-          → _≡_ {A = Standing} (record { host = h; session = x; event = e; refusal = q; refused = r })
-          (record { host = h; session = x; event = e₁; refusal = q; refused = r })
-      same-event e = rw e refl
+      same-events : {h : Host} {x : Session} {e e₁ : Event} {q r p p₁ : ℕ} → e ≡ e₁ → p ≡ p₁
+          → _≡_ {A = Standing} (record { host = h; session = x; event = e; refusal = q; refused = r; told = p })
+          (record { host = h; session = x; event = e₁; refusal = q; refused = r; told = p₁ })
+      same-events e f = rw (e, f) refl
 
-  memory-onward : (t : Talk) → onward t image .loader .memory ≡ memoryOnward (standingOf t) (t .loader .memory) image
+  memory-onward : (size : ℕ) (t : Talk) → onward t image .loader .memory ≡ memoryOnward (standingOf size t) (t .loader .memory) image
   unfolding onward memoryOnward memoryFed
-  memory-onward t = refl
+  memory-onward size t = refl
 
-  -- what stands, with the memory, is kept of a talk that leads to this end
-  pub record Reaches (end : Talk) (s : Standing) (m : List ℕ) : Type 0 where
-    pub talk : Talk
-    pub kept : s ≡ standingOf talk
-    pub memory : m ≡ talk .loader .memory
-    pub lent : Lent (talk .host) image
-    pub leads : exchanged talk image ≡ end
+  room-onward : (room : List ℕ) (t : Talk)
+      → roomAfter room 0 (onward t image .events)
+      ≡ roomOnward (standingOf (length room) t) (t .loader .memory) (roomAfter room 0 (t .events)) image
+  unfolding onward roomOnward roomFed
+  room-onward room t = room-joined room 0 (t .events) _
 
-  module _ {end : Talk} {s : Standing} {m : List ℕ} (r : Reaches end s m) where
-    -- one turn more
-    pub goes : {s₁ : Standing} {m₁ : List ℕ} → s .host .ended ≡ false → s₁ ≡ standingOnward s m image → m₁ ≡ memoryOnward s m image → Reaches end s₁ m₁
-    unfolding exchanged
-    goes running e f =
-        let t : Talk = r .talk in
-        let on : t .host .ended ≡ false = ap (λ (x : Standing). x .host .ended) (sym (r .kept)) ∙ running in
-        record {
-          talk = onward t image;
-          kept = e ∙ ap₂ (λ (x : Standing) (l : List ℕ). standingOnward x l image) (r .kept) (r .memory) ∙ sym (standing-onward t);
-          memory = f ∙ ap₂ (λ (x : Standing) (l : List ℕ). memoryOnward x l image) (r .kept) (r .memory) ∙ sym (memory-onward t);
-          lent = stays-lent t on (r .lent);
-          leads = onward-end (mostTurns (t .host)) t refl on (r .lent) ∙ r .leads;
-        }
+  -- what stands, with the memory and what was the room at first, is kept of a talk that leads to this end
+  module _ (first : List ℕ) where
+    pub record Reaches (end : Talk) (s : Standing) (m room : List ℕ) : Type 0 where
+      pub talk : Talk
+      pub kept : s ≡ standingOf (length first) talk
+      pub memory : m ≡ talk .loader .memory
+      pub written : room ≡ roomAfter first 0 (talk .events)
+      pub lent : Lent (talk .host) image
+      pub leads : exchanged talk image ≡ end
 
-    pub goes-less : {s₁ : Standing} → s .host .ended ≡ false → s₁ ≡ standingOnward s m image → mostTurns (s₁ .host) < mostTurns (s .host)
-    goes-less running e =
-        let t : Talk = r .talk in
-        let on : t .host .ended ≡ false = ap (λ (x : Standing). x .host .ended) (sym (r .kept)) ∙ running in
-        let next = e ∙ ap₂ (λ (x : Standing) (l : List ℕ). standingOnward x l image) (r .kept) (r .memory) ∙ sym (standing-onward t) in
-        rw (ap (λ (x : Standing). mostTurns (x .host)) next, ap (λ (x : Standing). mostTurns (x .host)) (r .kept)) (fewer t on (r .lent))
+    module _ {end : Talk} {s : Standing} {m room : List ℕ} (r : Reaches end s m room) where
+      abbrev t : Talk
+      t = r .talk
 
-    -- the end
-    pub ends : s .host .ended ≡ true → (record { refusal = s .refusal; retries = s .host .retries; refused = s .refused; event = s .event } ≡ outcomeOf end)
-        × (m ≡ end .loader .memory)
-    unfolding exchanged
-    ends over =
-        let t : Talk = r .talk in
-        let off : t .host .ended ≡ true = ap (λ (x : Standing). x .host .ended) (sym (r .kept)) ∙ over in
-        let last : t ≡ end = sym (rests (mostTurns (t .host)) t off) ∙ r .leads in (
-          ap (λ (x : Standing). record { refusal = x .refusal; retries = x .host .retries; refused = x .refused; event = x .event }) (r .kept)
-              ∙ ap outcomeOf last,
-          r .memory ∙ ap (λ (x : Talk). x .loader .memory) last,
-        )
+      is-on : s .host .ended ≡ false → t .host .ended ≡ false
+      is-on running = ap (λ (x : Standing). x .host .ended) (sym (r .kept)) ∙ running
+
+      next-kept : {s₁ : Standing} → s₁ ≡ standingOnward (length room) s m image → s₁ ≡ standingOf (length first) (onward t image)
+      next-kept e =
+          let size : length room ≡ length first = ap length (r .written) ∙ length-after first 0 (t .events) in
+          e
+          ∙ ap (λ (k : ℕ). standingOnward k s m image) size
+          ∙ ap₂ (λ (x : Standing) (l : List ℕ). standingOnward (length first) x l image) (r .kept) (r .memory)
+          ∙ sym (standing-onward (length first) t)
+
+      -- one turn more
+      pub goes : {s₁ : Standing} {m₁ room₁ : List ℕ} → s .host .ended ≡ false
+          → (s₁ ≡ standingOnward (length room) s m image) × ((m₁ ≡ memoryOnward s m image) × (room₁ ≡ roomOnward s m room image))
+          → Reaches end s₁ m₁ room₁
+      unfolding exchanged
+      goes running after =
+          let on = is-on running in
+          record {
+            talk = onward t image;
+            kept = next-kept (after .0);
+            memory = after .1 .0
+                ∙ ap₂ (λ (x : Standing) (l : List ℕ). memoryOnward x l image) (r .kept) (r .memory)
+                ∙ sym (memory-onward (length first) t);
+            written = after .1 .1
+                ∙ ap₂ (λ (x : Standing) (l : List ℕ). roomOnward x l room image) (r .kept) (r .memory)
+                ∙ ap (λ (l : List ℕ). roomOnward (standingOf (length first) t) (t .loader .memory) l image) (r .written)
+                ∙ sym (room-onward first t);
+            lent = stays-lent t on (r .lent);
+            leads = onward-end (mostTurns (t .host)) t refl on (r .lent) ∙ r .leads;
+          }
+
+      pub goes-less : {s₁ : Standing} → s .host .ended ≡ false → s₁ ≡ standingOnward (length room) s m image
+          → mostTurns (s₁ .host) < mostTurns (s .host)
+      goes-less running e =
+          rw (ap (λ (x : Standing). mostTurns (x .host)) (next-kept e), ap (λ (x : Standing). mostTurns (x .host)) (r .kept))
+          (fewer t (is-on running) (r .lent))
+
+      -- the end
+      pub ends : s .host .ended ≡ true
+          → (leftBy s ≡ outcomeOf (length first) end) × ((m ≡ end .loader .memory) × (room ≡ roomAfter first 0 (end .events)))
+      unfolding exchanged
+      ends over =
+          let off : t .host .ended ≡ true = ap (λ (x : Standing). x .host .ended) (sym (r .kept)) ∙ over in
+          let last : t ≡ end = sym (rests (mostTurns (t .host)) t off) ∙ r .leads in (
+            ap leftBy (r .kept) ∙ ap (outcomeOf (length first)) last,
+            (r .memory ∙ ap (λ (x : Talk). x .loader .memory) last, r .written ∙ ap (λ (x : Talk). roomAfter first 0 (x .events)) last),
+          )
 
 abbrev Fits : List ℕ → Opened → Type 0
 Fits image o = Lent (o .host) image
@@ -175,15 +213,21 @@ heard-lent : (h : Host) (bytes image : List ℕ) → Lent h image → Lent (hear
 heard-lent h bytes image lent more =
     ap (λ (n : ℕ). goodLength (length image) && eqb (length image) n) (heard-length h bytes) ∙ lent (sym (heard-ended h bytes) ∙ more)
 
+pub meeting-lent : (bus : Bus) (dialect : Dialect) (count : ℕ) (windows : List Window) (m image : List ℕ) (tries limit pings : ℕ)
+    → Lent (meeting bus dialect count windows m image tries limit pings .host) image
+meeting-lent bus dialect count windows m image tries limit pings = heard-lent _ _ image (opened-lent bus dialect image tries limit pings)
+
 -- the meeting leads to the end of its exchange
-pub meets : (bus : Bus) (dialect : Dialect) (count : ℕ) (windows : List Window) (m image : List ℕ) (tries limit pings : ℕ) {s : Standing}
-    → s ≡ standingOf (meeting bus dialect count windows [] image tries limit pings)
-    → Reaches image (exchanged (meeting bus dialect count windows m image tries limit pings) image) s m
-meets bus dialect count windows m image tries limit pings e =
+pub meets : (bus : Bus) (dialect : Dialect) (count : ℕ) (windows : List Window) (m image : List ℕ) (tries limit pings : ℕ) (room : List ℕ) {s : Standing}
+    → s ≡ standingOf 0 (meeting bus dialect count windows [] image tries limit pings)
+    → Reaches image room (exchanged (meeting bus dialect count windows m image tries limit pings) image) s m room
+unfolding placeAfter roomAfter
+meets bus dialect count windows m image tries limit pings room e =
     record {
       talk = meeting bus dialect count windows m image tries limit pings;
       kept = e;
       memory = refl;
-      lent = heard-lent _ _ image (opened-lent bus dialect image tries limit pings);
+      written = refl;
+      lent = meeting-lent bus dialect count windows m image tries limit pings;
       leads = refl;
     }

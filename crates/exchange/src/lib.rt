@@ -1,10 +1,12 @@
-// A host and a loader on one line, every reply heard before the host's next turn.
+// A host and a loader on one line, every reply heard before the host's next turn, the loader's events told in lent room.
 mod feeding;
 
 ghost use mathlib.Core.Path.{_≡_};
 ghost use mathlib.Core.List.{[]};
+ghost use lib.ListN.{length};
+ghost use Rattle.event_room.specs.rules.Room.{roomAfter};
 ghost use Rattle.exchange.specs.rules.Exchange.{meeting, exchanged};
-ghost use Rattle.exchange.specs.rules.Standing.{outcomeOf, standingOf, hostTurned, standingOnward, memoryOnward};
+ghost use Rattle.exchange.specs.rules.Standing.{outcomeOf, standingOf, leftBy, hostTurned, standingOnward, memoryOnward, roomOnward};
 use host_answers::Host;
 use host_answers::Turned;
 use opcodes::Dialect;
@@ -12,21 +14,24 @@ use opcodes::Event;
 use sent::Bus;
 use windows::Window;
 
-// What an exchange comes to: the code of the host's first refusal, its retries, the code of the loader's first refusal but 14, and the last event.
+// What an exchange comes to: the code of the host's first refusal, its retries, the code of the loader's first refusal but 14, the last event, and how many
+// bytes of the room hold events.
 pub struct Exchanged {
     pub refusal: u8,
     pub retries: u8,
     pub refused: u8,
     pub event: Event,
+    pub told: usize,
 }
 
-// What stands between turns: the host, the loader, the last event, and the codes of their first refusals.
+// What stands between turns: the host, the loader, the last event, the codes of their first refusals, and the place of the next event in the room.
 pub struct Standing {
     pub host: Host,
     pub session: sent::Session,
     pub event: Event,
     pub refusal: u8,
     pub refused: u8,
+    pub told: usize,
 }
 
 // A freshly opened host and a freshly opened loader, whose greeting is heard.
@@ -40,7 +45,7 @@ fn meet(
     limit: u8,
     pings: u32,
 ) -> Standing
-    ensures { λ r. ⌜ r ≡ standingOf (meeting bus dialect count windows [] (now (image .entry)) tries limit pings) ⌝ }
+    ensures { λ r. ⌜ r ≡ standingOf 0 (meeting bus dialect count windows [] (now (image .entry)) tries limit pings) ⌝ }
 {
     let opened = Host::open(bus, dialect, image, tries, limit, pings);
     let loader = sent::open_on(bus, dialect, count, windows);
@@ -53,6 +58,7 @@ fn meet(
         event: Event::Nothing,
         refusal: refusal.code(),
         refused: 0,
+        told: 0,
     }
 }
 
@@ -70,24 +76,33 @@ fn take_turn(standing: Standing, turned: Turned) -> Standing
         event,
         refusal: feeding::first_but_ended(standing.refusal, refusal),
         refused: standing.refused,
+        told: standing.told,
     }
 }
 
 // One turn, its units fed and every reply heard.
-fn go_on(standing: Standing, memory: &mut [u8], image: &[u8]) -> Standing
-    ensures { λ r. ⌜ r ≡ standingOnward standing (now (memory .entry)) (now (image .entry)) ⌝ }
+fn go_on(standing: Standing, memory: &mut [u8], image: &[u8], room: &mut [u8]) -> Standing
+    ensures { λ r. ⌜ r ≡ standingOnward (length (now (room .entry))) standing (now (memory .entry)) (now (image .entry)) ⌝ }
     ensures { λ _. ⌜ now (memory .exit) ≡ memoryOnward standing (now (memory .entry)) (now (image .entry)) ⌝ }
+    ensures { λ _. ⌜ now (room .exit) ≡ roomOnward standing (now (memory .entry)) (now (room .entry)) (now (image .entry)) ⌝ }
 {
     let host = standing.host;
     let bus = host.bus;
     let turned = host::turn(host, image);
     let sending = turned.sending;
-    feeding::send(bus, sending, take_turn(standing, turned), memory, image)
+    feeding::send(
+        bus,
+        sending,
+        take_turn(standing, turned),
+        memory,
+        image,
+        room,
+    )
 }
 
 // What an exchange comes to.
 fn outcome(standing: Standing) -> Exchanged
-    ensures { λ r. ⌜ r ≡ record { refusal = standing .refusal; retries = standing .host .retries; refused = standing .refused; event = standing .event } ⌝ }
+    ensures { λ r. ⌜ r ≡ leftBy standing ⌝ }
 {
     let event = standing.event;
     Exchanged {
@@ -95,6 +110,7 @@ fn outcome(standing: Standing) -> Exchanged
         retries: standing.host.retries,
         refused: standing.refused,
         event,
+        told: standing.told,
     }
 }
 
@@ -109,16 +125,21 @@ pub fn exchange(
     tries: u32,
     limit: u8,
     pings: u32,
+    room: &mut [u8],
 ) -> Exchanged
     ensures { λ r.
-        ⌜ r ≡ outcomeOf (exchanged (meeting bus dialect count windows (now (memory .entry)) (now (image .entry)) tries limit pings) (now (image .entry))) ⌝ }
+        ⌜ r ≡ outcomeOf (length (now (room .entry)))
+        (exchanged (meeting bus dialect count windows (now (memory .entry)) (now (image .entry)) tries limit pings) (now (image .entry))) ⌝ }
     ensures { λ _.
         ⌜ now (memory .exit)
         ≡ exchanged (meeting bus dialect count windows (now (memory .entry)) (now (image .entry)) tries limit pings) (now (image .entry)) .loader .memory ⌝ }
+    ensures { λ _.
+        ⌜ now (room .exit) ≡ roomAfter (now (room .entry)) 0
+        (exchanged (meeting bus dialect count windows (now (memory .entry)) (now (image .entry)) tries limit pings) (now (image .entry)) .events) ⌝ }
 {
     let mut live = meet(bus, dialect, count, windows, image, tries, limit, pings);
     while !live.host.ended {
-        live = go_on(live, memory, image);
+        live = go_on(live, memory, image, room);
     }
     outcome(live)
 }

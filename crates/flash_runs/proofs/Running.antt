@@ -1,11 +1,16 @@
--- A run with both rows of entries, call by call: the calls that are left after one lead to the same end, by one step of each definition.
+-- A run with both rows of entries and its events in a room, call by call: the calls that are left lead to the same end, by one step of each definition.
 use Prim.Native.Nat.{ℕ, zero, suc, _-_}
 use mathlib.Core.Bool.{true, false}
-use mathlib.Core.List.{List}
+use mathlib.Core.List.{List, _++_, append-nil}
 use mathlib.Core.Logic.{_≢_}
 use mathlib.Core.Path.{_≡_, refl, sym, ap, ap₂, _∙_}
 use native.Mathlib.Omega.{arith}
+use lib.ListN.{length}
 use Rattle.words.proofs.Choice.{chosen, passed}
+use Rattle.opcodes.specs.rules.Answers as answers
+use Rattle.opcodes.specs.declared.Event.{Event}
+use Rattle.event_room.specs.rules.Room.{placeAfter, roomAfter}
+use Rattle.event_room.proofs.Writing.{length-after, place-joined, room-joined}
 use Rattle.commands.specs.declared.Wrote.{Wrote}
 use Rattle.bit_stamps.specs.rules.Stamps.{stamped}
 use Rattle.flash_session.specs.rules.Sessions.{CallOutcome, _leaving_}
@@ -13,6 +18,7 @@ use Rattle.flash.specs.rules.Step.{stepOf}
 use Rattle.flash_session.specs.declared.Called.{Called}
 use Rattle.flash_session.specs.declared.Session.{Session}
 use Rattle.flash_runs.specs.rules.Entries.{numberWrote, offsetWrote, stampsOn, callEntries, callOffsets}
+use Rattle.flash_runs.specs.rules.Events.{eventsOn}
 use Rattle.flash_runs.specs.rules.Run.{goesOn, carriedOn}
 use Rattle.flash_runs.proofs.Calls as calls
 
@@ -21,12 +27,21 @@ pub data Last (n : ℕ) (a : Called) : Type 0 where
   spent : n ≡ 0 → Last n a
   stops : goesOn a ≡ false → Last n a
 
+-- what stands beside a run: the numbers, the offsets, and the room with the place of the next event
+pub record Beside : Type 0 where
+  pub numbers : List ℕ
+  pub offsets : List ℕ
+  pub room : List ℕ
+  pub place : ℕ
+
 module _ (places image : List ℕ) where
-  -- at most n calls after an outcome lead to an end, and to these numbers and offsets
-  pub record Leads (n : ℕ) (numbers offsets : List ℕ) (o end : CallOutcome) (all-numbers all-offsets : List ℕ) : Type 0 where
+  -- at most n calls after an outcome lead to an end, and to this beside it
+  pub record Leads (n : ℕ) (now : Beside) (o end : CallOutcome) (all : Beside) : Type 0 where
     pub outcome : carriedOn n o image ≡ end
-    pub by-number : stampsOn numberWrote n places numbers o image ≡ all-numbers
-    pub by-offset : stampsOn offsetWrote n places offsets o image ≡ all-offsets
+    pub by-number : stampsOn numberWrote n places (now .numbers) o image ≡ all .numbers
+    pub by-offset : stampsOn offsetWrote n places (now .offsets) o image ≡ all .offsets
+    pub by-place : placeAfter (length (now .room)) (now .place) (eventsOn n o image) ≡ all .place
+    pub by-event : roomAfter (now .room) (now .place) (eventsOn n o image) ≡ all .room
 
   -- the last call leaves its outcome, and the entries after it
   outcome-last : (n : ℕ) (o : CallOutcome) → Last n (o .answer) → carriedOn n o image ≡ o
@@ -53,6 +68,22 @@ module _ (places image : List ℕ) where
     unfolding stampsOn
     entries-go n o e = chosen _ _ _ e
 
+  -- the last call tells its event, any other has more after it
+  events-stay : (n : ℕ) (o : CallOutcome) → goesOn (o .answer) ≡ false → eventsOn n o image ≡ answers.told (o .answer .event)
+  unfolding eventsOn
+  events-stay zero o e = refl
+  events-stay (suc n) o e = ap (λ (es : List Event). answers.told (o .answer .event) ++ es) (passed _ _ _ e) ∙ append-nil (answers.told (o .answer .event))
+
+  events-last : (n : ℕ) (o : CallOutcome) → Last n (o .answer) → eventsOn n o image ≡ answers.told (o .answer .event)
+  unfolding eventsOn
+  events-last n o (spent e) = ap (λ (k : ℕ). eventsOn k o image) e
+  events-last n o (stops e) = events-stay n o e
+
+  events-go : (n : ℕ) (o : CallOutcome) → goesOn (o .answer) ≡ true
+      → eventsOn (suc n) o image ≡ answers.told (o .answer .event) ++ eventsOn n (stepOf (o .answer .session) (o .memory) image) image
+  unfolding eventsOn
+  events-go n o e = ap (λ (es : List Event). answers.told (o .answer .event) ++ es) (chosen _ _ _ e)
+
   -- a call of a session s, with its answer and the memory that it leaves
   module _ (s : Session) (m : List ℕ) {a : Called} {after : List ℕ} (e : a ≡ stepOf s m image .answer) (f : after ≡ stepOf s m image .memory) where
     whole : (a leaving after) ≡ stepOf s m image
@@ -74,28 +105,65 @@ module _ (places image : List ℕ) where
       entries-end n last =
           told ∙ sym (entries-last tell entries n (a leaving after) last) ∙ ap (λ (o : CallOutcome). stampsOn tell n places entries o image) whole
 
-    module _ (n : ℕ) (numbers offsets : List ℕ) {next-numbers next-offsets : List ℕ}
-        (entries : (next-numbers ≡ callEntries places numbers s m image) × (next-offsets ≡ callOffsets places offsets s m image))
-        {end : CallOutcome} {all-numbers all-offsets : List ℕ} (leads : Leads n numbers offsets (stepOf s m image) end all-numbers all-offsets) where
+    -- and its event told in a room
+    module _ (room : List ℕ) (place : ℕ) {next-room : List ℕ} {next-place : ℕ} (p : next-place ≡ placeAfter (length room) place (answers.told (a .event)))
+        (r : next-room ≡ roomAfter room place (answers.told (a .event))) where
+      same-events : (n : ℕ) → suc (n - 1) ≡ n → goesOn a ≡ true
+          → answers.told (a .event) ++ eventsOn (n - 1) (stepOf (a .session) after image) image ≡ eventsOn n (stepOf s m image) image
+      same-events n again more =
+          sym (events-go (n - 1) (a leaving after) more) ∙ ap₂ (λ (k : ℕ) (o : CallOutcome). eventsOn k o image) again whole
+
+      last-event : (n : ℕ) → Last n a → answers.told (a .event) ≡ eventsOn n (stepOf s m image) image
+      last-event n last = sym (events-last n (a leaving after) last) ∙ ap (λ (o : CallOutcome). eventsOn n o image) whole
+
+      room-again : (n : ℕ) → suc (n - 1) ≡ n → goesOn a ≡ true
+          → roomAfter next-room next-place (eventsOn (n - 1) (stepOf (a .session) after image) image)
+          ≡ roomAfter room place (eventsOn n (stepOf s m image) image)
+      room-again n again more =
+          let rest = eventsOn (n - 1) (stepOf (a .session) after image) image in
+          ap₂ (λ (l : List ℕ) (k : ℕ). roomAfter l k rest) r p
+          ∙ sym (room-joined room place (answers.told (a .event)) rest)
+          ∙ ap (roomAfter room place) (same-events n again more)
+
+      place-again : (n : ℕ) → suc (n - 1) ≡ n → goesOn a ≡ true
+          → placeAfter (length next-room) next-place (eventsOn (n - 1) (stepOf (a .session) after image) image)
+          ≡ placeAfter (length room) place (eventsOn n (stepOf s m image) image)
+      place-again n again more =
+          let rest = eventsOn (n - 1) (stepOf (a .session) after image) image in
+          ap₂ (λ (size k : ℕ). placeAfter size k rest) (ap length r ∙ length-after room place (answers.told (a .event))) p
+          ∙ sym (place-joined (length room) place (answers.told (a .event)) rest)
+          ∙ ap (placeAfter (length room) place) (same-events n again more)
+
+    module _ (n : ℕ) (before : Beside) {next-numbers next-offsets next-room : List ℕ} {next-place : ℕ}
+        (entries : (next-numbers ≡ callEntries places (before .numbers) s m image) × (next-offsets ≡ callOffsets places (before .offsets) s m image))
+        (told-in : (next-place ≡ placeAfter (length (before .room)) (before .place) (answers.told (a .event)))
+        × (next-room ≡ roomAfter (before .room) (before .place) (answers.told (a .event))))
+        {end : CallOutcome} {all : Beside} (leads : Leads n before (stepOf s m image) end all) where
       -- after one that goes on one fewer is left
-      pub leads-on : n ≢ 0 → goesOn a ≡ true → Leads (n - 1) next-numbers next-offsets (stepOf (a .session) after image) end all-numbers all-offsets
+      pub leads-on : n ≢ 0 → goesOn a ≡ true
+          → Leads (n - 1) (record { numbers = next-numbers; offsets = next-offsets; room = next-room; place = next-place })
+          (stepOf (a .session) after image) end all
       leads-on h more =
           let again : suc (n - 1) ≡ n = omega (arith, h) in
           record {
             outcome = sym (calls.goes image (n - 1) (a leaving after) more)
                 ∙ ap₂ (λ (k : ℕ) (o : CallOutcome). carriedOn k o image) again whole
                 ∙ leads .outcome;
-            by-number = entries-again numberWrote numbers (entries .0) n again more ∙ leads .by-number;
-            by-offset = entries-again offsetWrote offsets (entries .1) n again more ∙ leads .by-offset;
+            by-number = entries-again numberWrote (before .numbers) (entries .0) n again more ∙ leads .by-number;
+            by-offset = entries-again offsetWrote (before .offsets) (entries .1) n again more ∙ leads .by-offset;
+            by-place = place-again (before .room) (before .place) (told-in .0) (told-in .1) n again more ∙ leads .by-place;
+            by-event = room-again (before .room) (before .place) (told-in .0) (told-in .1) n again more ∙ leads .by-event;
           }
 
       -- the last one leaves what the run leaves
-      pub leads-last : Last n a → (a ≡ end .answer) × ((after ≡ end .memory) × ((next-numbers ≡ all-numbers) × (next-offsets ≡ all-offsets)))
+      pub leads-last : Last n a
+          → (a ≡ end .answer) × ((after ≡ end .memory) × ((next-numbers ≡ all .numbers) × ((next-offsets ≡ all .offsets)
+          × ((next-place ≡ all .place) × (next-room ≡ all .room)))))
       leads-last last =
-          let reached = sym (outcome-last n (a leaving after) last) ∙ ap (λ (o : CallOutcome). carriedOn n o image) whole ∙ leads .outcome in (
-            ap (λ (o : CallOutcome). o .answer) reached,
-            (
-              ap (λ (o : CallOutcome). o .memory) reached,
-              (entries-end numberWrote numbers (entries .0) n last ∙ leads .by-number, entries-end offsetWrote offsets (entries .1) n last ∙ leads .by-offset),
-            ),
-          )
+          let reached = sym (outcome-last n (a leaving after) last) ∙ ap (λ (o : CallOutcome). carriedOn n o image) whole ∙ leads .outcome in
+          let event = last-event (before .room) (before .place) (told-in .0) (told-in .1) n last in
+          let by-number = entries-end numberWrote (before .numbers) (entries .0) n last ∙ leads .by-number in
+          let by-offset = entries-end offsetWrote (before .offsets) (entries .1) n last ∙ leads .by-offset in
+          let by-place = told-in .0 ∙ ap (placeAfter (length (before .room)) (before .place)) event ∙ leads .by-place in
+          let by-event = told-in .1 ∙ ap (roomAfter (before .room) (before .place)) event ∙ leads .by-event in
+          (ap (λ (o : CallOutcome). o .answer) reached, (ap (λ (o : CallOutcome). o .memory) reached, (by-number, (by-offset, (by-place, by-event)))))

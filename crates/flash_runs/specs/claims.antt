@@ -1,3 +1,4 @@
 pub mod Ceiling
 pub mod Ends
+pub mod Events
 pub mod Fetched

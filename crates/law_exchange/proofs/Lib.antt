@@ -1,4 +1,6 @@
+pub mod Agreement
 pub mod Beginning
+pub mod Commissioning
 pub mod Course
 pub mod Entering
 pub mod Exchange
@@ -9,4 +11,5 @@ pub mod Scenes
 pub mod Silence
 pub mod Standing
 pub mod Stopping
+pub mod Whole
 pub mod Worked

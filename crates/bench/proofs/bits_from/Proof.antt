@@ -49,13 +49,18 @@ slice-aggregate-run-from c = search needs
 slice-aggregate-run-from-2 : tie.Need-slice-aggregate-run-from-2
 slice-aggregate-run-from-2 c = search needs
 
+slice-aggregate-run-from-3 : tie.Need-slice-aggregate-run-from-3
+slice-aggregate-run-from-3 c = search needs
+
 run-from-requires : tie.Need-run-from-requires
 run-from-requires c κs = search needs
 
 report-requires : tie.Need-report-requires
 report-requires c κs =
-    let judged = c .before .before .before .before .before .before .before .before .before .before .before .before .before .before .before .before .before in
-    rw (c .before .before .before .before .before .run-from .ensures .0) (ran-at _ _ _ (judged .before .before .before .before .before .before .before .pre))
+    let at-run = c .before .before .before .before .before .before in
+    let at-clear = at-run .before .before .before .before .before .before .before .before .before in
+    let judged = at-clear .before .before .before .before in
+    rw (at-run .run-from .ensures .0) (ran-at _ _ _ (judged .before .before .before .before .before .before .before .pre))
 
 same-length : tie.Need-same-length
 same-length c = search needs
@@ -65,24 +70,24 @@ same-length-2 c = search needs
 
 returns-2 : tie.Need-returns-2
 returns-2 c =
-    let judged = c .before .before .before .before .before .before .before .before .before .before .before .before .before .before .before .before .before
-    .before in
+    let at-run = c .before .before .before .before .before .before .before in
+    let at-clear = at-run .before .before .before .before .before .before .before .before .before in
+    let at-if1 = at-clear .before .before in
+    let judged = at-if1 .before .before in
     let a = judged .before .before .before .before .before .before .before .args in
     let barred-by : judged .bar .result
     ≡ barred (a .opened .refusal) (a .choice) (length (a .numbers .now)) (length (a .memory .now)) (sumOf (a .opened .session .windows)) =
     judged .bar .ensures ∙ ap (barred _ _ _ _) (judged .before .sum .ensures) in
-    let run = c .before .before .before .before .before .before .run-from .ensures in
-    let cleared = c .before .before .before .before .before .before .before .before .before .before .before .before .before .before .clear .ensures in
+    let run = at-run .run-from .ensures in
     noted
     (from-run (a .opened) (a .choice) (a .memory .now) (a .numbers .now) (a .image .now)
-    (sym (ap (λ (q : Refusal). codeOf q) barred-by) ∙ sym
-    (c .before .before .before .before .before .before .before .before .before .before .before .before .before .before .before .before .before .code .ensures)
-    ∙ c .before .before .before .before .before .before .before .before .before .before .before .before .before .before .before .before .if1 .left)) (
+    (sym (ap (λ (q : Refusal). codeOf q) barred-by) ∙ sym (at-if1 .before .code .ensures) ∙ at-if1 .if1 .left)) (
       c .report .ensures ∙ ap reported (run .0),
       (
         run .1 .0,
         run .1 .1 .0
-            ∙ ap (λ (numbers : List ℕ). entriesFrom (chosenPlaces (a .choice .chosen)) numbers (a .opened) (a .memory .now) (a .image .now)) cleared,
+            ∙ ap (λ (numbers : List ℕ). entriesFrom (chosenPlaces (a .choice .chosen)) numbers (a .opened) (a .memory .now) (a .image .now))
+            (at-clear .clear .ensures),
       ),
     )
 
@@ -98,6 +103,7 @@ bits-from-spec =
     clear-requires
     slice-aggregate-run-from
     slice-aggregate-run-from-2
+    slice-aggregate-run-from-3
     run-from-requires
     report-requires
     same-length

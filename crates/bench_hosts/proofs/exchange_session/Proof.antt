@@ -34,6 +34,9 @@ count-of-requires c κs = search needs
 windows-of-requires : tie.Need-windows-of-requires
 windows-of-requires c κs = search needs
 
+slice-aggregate-exchange : tie.Need-slice-aggregate-exchange
+slice-aggregate-exchange c = search needs
+
 exchange-requires : tie.Need-exchange-requires
 exchange-requires c κs = search needs
 
@@ -45,8 +48,8 @@ same-length c = search needs
 
 returns-2 : tie.Need-returns-2
 returns-2 c =
-    let at-exchange = c .before .before .before in
-    let at-windows-of = at-exchange .before .before in
+    let at-exchange = c .before .before .before .before in
+    let at-windows-of = at-exchange .before .before .before in
     let at-count-of = at-windows-of .before in
     let at-dialect-of = at-count-of .before in
     let at-line-of = at-dialect-of .before in
@@ -58,7 +61,7 @@ returns-2 c =
     exchanged-call (a .line) (a .dialect) (a .map .now) (a .memory .now) (a .image .now) (a .tries) (a .limit) (a .pings)
     (at-bar .bar .ensures) (sym (at-code .code .ensures) ∙ at-if1 .if1 .left)
     (at-line-of .line-of .ensures) (at-dialect-of .dialect-of .ensures) (at-count-of .count-of .ensures)
-    (at-windows-of .windows-of .ensures) (at-exchange .exchange .ensures .0) (at-exchange .exchange .ensures .1)
+    (at-windows-of .windows-of .ensures) (at-exchange .exchange .ensures .0) (at-exchange .exchange .ensures .1 .0)
     (c .exchange-value .ensures)
 
 pub exchange-session-spec : {M : Type 1} → statement M
@@ -73,6 +76,7 @@ exchange-session-spec =
     dialect-of-requires
     count-of-requires
     windows-of-requires
+    slice-aggregate-exchange
     exchange-requires
     exchange-value-requires
     same-length

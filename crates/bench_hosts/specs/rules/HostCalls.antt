@@ -83,7 +83,7 @@ abbrev pub exchangeValue : Exchanged → ℕ
 exchangeValue e = e .refusal * 2 ^ 56 + e .retries * 2 ^ 48 + e .refused * 2 ^ 40 + entryValue (e .event)
 
 abbrev pub exchangedInto : Talk → CallOutcome
-exchangedInto t = leaving (exchangeValue (outcomeOf t)) (t .loader .memory)
+exchangedInto t = leaving (exchangeValue (outcomeOf 0 t)) (t .loader .memory)
 
 -- why an exchange does not begin: 19 for a line or a dialect, 1 for the map, 2 for the memory
 unfoldable pub exchangeRefused : ℕ → ℕ → List ℕ → ℕ → Refusal

@@ -34,6 +34,9 @@ slice-aggregate-run-from c =
     let picked = c .before .before .before .before .before .before .choose in
     sym (picked .ok .1 .1 .1 .0 .1 .1 .1 .0 .1 .0 .1) ∙ length-map (picked .result .chosen .places) (λ (place : ℕ). place)
 
+slice-aggregate-run-from-2 : tie.Need-slice-aggregate-run-from-2
+slice-aggregate-run-from-2 c = search needs
+
 run-from-requires : tie.Need-run-from-requires
 run-from-requires c κs = search needs
 
@@ -51,14 +54,22 @@ same-length-3 c = search needs
 
 returns-2 : tie.Need-returns-2
 returns-2 c =
-    let picked = c .before .before .before .before .before .before .before .before .before .before .before .before .before .before .before in
+    let at-run = c .before .before .before .before .before .before .before .before in
+    let at-open = at-run .before .before .before .before .before .before in
+    let picked = at-open .before .before .before in
     let number = rw (picked .before .before .choose .ensures, picked .before .before .before .windows .ensures) at (picked .before .code .ensures) in
-    let opened = c .before .before .before .before .before .before .before .before .before .before .before .before .open-numbering .ensures in
-    let run = c .before .before .before .before .before .before .before .run-from .ensures in
+    let opened = at-open .open-numbering .ensures in
+    let run = at-run .run-from .ensures in
     words-taken _ _ _ _ _ (sym number ∙ picked .if1 .left) (
       rw (opened, picked .before .before .choose .ensures, picked .before .before .before .windows .ensures) at
           (c .ended-by .ensures ∙ ap (λ (x : Called). ended x (picked .before .before .choose .result .chosen)) (run .0)),
-      rw (opened, picked .before .before .choose .ensures, picked .before .before .before .windows .ensures) at (run .1),
+      (
+        rw (opened, picked .before .before .before .windows .ensures) at (run .1 .0),
+        (
+          rw (opened, picked .before .before .choose .ensures, picked .before .before .before .windows .ensures) at (run .1 .1 .0),
+          rw (opened, picked .before .before .choose .ensures, picked .before .before .before .windows .ensures) at (run .1 .1 .1 .0),
+        ),
+      ),
     )
 
 pub run-spec : {M : Type 1} → statement M
@@ -72,6 +83,7 @@ run-spec =
     returns
     open-numbering-requires
     slice-aggregate-run-from
+    slice-aggregate-run-from-2
     run-from-requires
     ended-by-requires
     same-length

@@ -17,6 +17,10 @@ use Rattle.checking.specs.declared.Report.{Report}
 abbrev pub windows : List Window
 windows = record { first = 0x80000000; length = 4096; rights = 7 } ∷ replicate 7 zeroWindow
 
+-- its memory, of zeros
+abbrev pub cleared : List ℕ
+cleared = replicate 4096 0
+
 -- the opening of an image with this window, of one window, and retry limit 0
 abbrev pub opened : Dialect → List ℕ → Opened
 opened dialect image = openedBy dialect 1 windows image 0
@@ -35,7 +39,7 @@ reported a =
 
 -- the last answer: of a run over memory of zeros, or of the refused opening
 unfoldable pub lastAnswer : List ℕ → Opened → Called
-lastAnswer image o = ranFrom o (replicate 4096 0) image .answer
+lastAnswer image o = ranFrom o cleared image .answer
 
 unfoldable pub reportOf : Dialect → List ℕ → Report
 reportOf dialect image = reported (lastAnswer image (opened dialect image))

@@ -1,5 +1,6 @@
 -- `exchange::meet` meets its contract: both are opened, and the greeting is heard.
 use borrow.Author.Needs.{needs}
+use Rattle.event_room.specs.rules.Room.{placeAfter}
 use Rattle.exchange.specs.rules.Standing.{lastAfter}
 use Rattle.exchange.proofs.meet.Statement.{statement}
 use Rattle.exchange.proofs.meet.Tie as tie
@@ -17,7 +18,7 @@ code-requires : tie.Need-code-requires
 code-requires c κs = search needs
 
 returns : tie.Need-returns
-unfolding lastAfter
+unfolding lastAfter placeAfter
 returns c =
     let at-open-on = c .before .before .before .before in
     let at-open = at-open-on .before in

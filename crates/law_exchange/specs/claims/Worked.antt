@@ -28,10 +28,13 @@ abbrev pub memory : List ℕ
 memory = replicate 76 0
 
 -- Enable; a fill, and a load after it; a Request that expects the checksum of the load alone and seeks back to it, so that it mismatches once
+abbrev pub attempts : List ℕ
+attempts =
+    0x58535903 ∷ 0x5853590A ∷ 0x10800000 ∷ 4 ∷ 2 ∷ 0x11223344 ∷ 0x58535901 ∷ 0x10800040 ∷ 12 ∷ 0xA ∷ 0xB ∷ 0xC ∷ 0x58535902 ∷ 0x8434A250 ∷ 0xFFFFFFDC ∷ []
+
+-- with them a whole script
 abbrev pub retrying : List ℕ
-retrying =
-    magic ∷ 0x58535903 ∷ 0x5853590A ∷ 0x10800000 ∷ 4 ∷ 2 ∷ 0x11223344 ∷ 0x58535901 ∷ 0x10800040 ∷ 12 ∷ 0xA ∷ 0xB ∷ 0xC ∷ 0x58535902 ∷ 0x8434A250 ∷ 0xFFFFFFDC
-    ∷ 0x58535906 ∷ 0x10800000 ∷ []
+retrying = magic ∷ attempts ++ (0x58535906 ∷ 0x10800000 ∷ [])
 
 -- a DM648's close names the load alone too: the retry took the fill back
 abbrev pub image : Dialect → List ℕ

@@ -4,19 +4,14 @@ use mathlib.Core.Bool.{Bool, true, false, _&&_}
 use mathlib.Core.List.{List}
 use lib.Bits.{bitXor}
 use lib.Count.{ones}
-use lib.ListN.{replicate}
 use Rattle.words.specs.rules.Bytes.{wordAt}
 use Rattle.words.specs.rules.Choice.{pick}
 use Rattle.opcodes.specs.declared.Dialect.the-variants.{Am17xx}
 use Rattle.flash_runs.specs.rules.Run.{ranFrom}
-use Rattle.checking.specs.rules.Report.{opened, reportOf}
+use Rattle.checking.specs.rules.Report.{cleared, opened, reportOf}
 use Rattle.survey.specs.declared.Image.{Image}
 use Rattle.survey.specs.declared.Outcome.{Outcome}
 use Rattle.survey.specs.declared.Outcome.the-variants.{Entered, Refused, Absent}
-
--- cleared memory
-abbrev pub cleared : List ℕ
-cleared = replicate 4096 0
 
 -- what the check program's run of an image leaves of cleared memory; a refused opening runs nothing
 unfoldable pub memoryLeft : List ℕ → List ℕ

@@ -1,7 +1,7 @@
 -- `bench_hosts::layout::put_word` meets its contract: the word fits.
 use borrow.Author.Needs.{needs}
 use mathlib.Core.Path.{_∙_}
-use Rattle.bench_hosts.proofs.Laying.{word-laid}
+use Rattle.event_room.proofs.Writing.{word-laid}
 use Rattle.bench_hosts.proofs.layout.put_word.Statement.{statement}
 use Rattle.bench_hosts.proofs.layout.put_word.Tie as tie
 

@@ -26,21 +26,29 @@ feed-requires-2 c κs = search needs
 same-length : tie.Need-same-length
 same-length c = search needs
 
-returns : tie.Need-returns
-returns c =
-    let at-enum-told = c .before .before .before .before .before in
-    let a = at-enum-told .before .before .before .args in
-    start-fed (a .standing) (a .memory .now) (at-enum-told .enum-told .given .1) (c .before .before .feed .ensures)
-
 same-length-2 : tie.Need-same-length-2
 same-length-2 c = search needs
+
+returns : tie.Need-returns
+returns c =
+    let at-feed = c .before .before .before .before in
+    let at-enum-told = at-feed .before .before .before .before in
+    let a = at-enum-told .before .before .before .before .args in
+    start-fed (a .standing) (a .memory .now) (a .room .now) (at-enum-told .enum-told .given .1) (at-feed .feed .ensures)
+
+same-length-3 : tie.Need-same-length-3
+same-length-3 c = search needs
+
+same-length-4 : tie.Need-same-length-4
+same-length-4 c = search needs
 
 returns-2 : tie.Need-returns-2
 unfolding halvesOf
 returns-2 c =
-    let at-enum-told = c .before .before .before .before .before in
-    let a = at-enum-told .before .before .before .args in
-    start-fed (a .standing) (a .memory .now) (at-enum-told .enum-told2 .given .1) (c .before .before .feed2 .ensures)
+    let at-feed = c .before .before .before .before in
+    let at-enum-told = at-feed .before .before .before .before in
+    let a = at-enum-told .before .before .before .before .args in
+    start-fed (a .standing) (a .memory .now) (a .room .now) (at-enum-told .enum-told2 .given .1) (at-feed .feed2 .ensures)
 
 pub send-start-spec : {M : Type 1} → statement M
 send-start-spec =
@@ -53,6 +61,8 @@ send-start-spec =
     slice-aggregate-feed-2
     feed-requires-2
     same-length
-    returns
     same-length-2
+    returns
+    same-length-3
+    same-length-4
     returns-2)

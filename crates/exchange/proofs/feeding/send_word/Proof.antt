@@ -1,10 +1,6 @@
 -- `exchange::feeding::send_word` meets its contract: the bytes lent are the units of the word.
 use borrow.Author.Needs.{needs}
-use Prim.Native.Nat.{ℕ}
-use mathlib.Core.List.{List}
-use mathlib.Core.Path.{ap, _∙_}
-use Rattle.exchange.specs.rules.Standing.{standingFed, memoryFed}
-use Rattle.exchange.proofs.Hearing.{word-lent}
+use Rattle.exchange.proofs.Hearing.{fed-as, word-lent}
 use Rattle.exchange.proofs.feeding.send_word.Statement.{statement}
 use Rattle.exchange.proofs.feeding.send_word.Tie as tie
 
@@ -29,21 +25,21 @@ feed-requires c κs = search needs
 same-length : tie.Need-same-length
 same-length c = search needs
 
+same-length-2 : tie.Need-same-length-2
+same-length-2 c = search needs
+
 returns : tie.Need-returns
 returns c =
-    let at-byte-of4 = c .before .before .before .before .before in
+    let at-feed = c .before .before .before .before in
+    let at-byte-of4 = at-feed .before .before .before .before in
     let at-byte-of3 = at-byte-of4 .before in
     let at-byte-of2 = at-byte-of3 .before in
     let at-byte-of = at-byte-of2 .before in
-    let at-before = at-byte-of .before in
-    let root = at-before .before in
+    let root = at-byte-of .before .before .before in
     let a = root .args in
-    let fed = c .before .before .feed in
     let units = word-lent (a .bus) (a .word) (root .fits .word .fits) (at-byte-of .byte-of .ensures) (at-byte-of2 .byte-of2 .ensures)
-    (at-byte-of3 .byte-of3 .ensures) (at-byte-of4 .byte-of4 .ensures) in (
-      fed .ensures .0 ∙ ap (λ (l : List ℕ). standingFed (a .bus) (a .standing) (a .memory .now) l) units,
-      fed .ensures .1 ∙ ap (λ (l : List ℕ). memoryFed (a .bus) (a .standing) (a .memory .now) l) units,
-    )
+    (at-byte-of3 .byte-of3 .ensures) (at-byte-of4 .byte-of4 .ensures) in
+    fed-as (a .bus) (a .standing) (a .memory .now) (a .room .now) units (at-feed .feed .ensures)
 
 pub send-word-spec : {M : Type 1} → statement M
 send-word-spec =
@@ -56,4 +52,5 @@ send-word-spec =
     slice-aggregate-feed
     feed-requires
     same-length
+    same-length-2
     returns)
