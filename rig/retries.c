@@ -2,13 +2,13 @@
 
    retries COUNT SEED [FIRST] runs COUNT cases of the seed, from case FIRST on, those of even numbers by bytes
    and those of odd numbers by halves, two for the AM17xx and two for the DM648 in turns. A case is a map, a memory
-   and the bytes of a prefix, an attempt, the commands that follow it and a continuation. They are fed with the
-   attempt and without it, and memory, refusal and all replies from the attempt's close on have to agree. In every
-   other four cases words are chosen, and the numbers of their bits are read as part of the memory. So all have to agree
-   where a Jump & Close comes next, by which a DM648 shows its totals: those that the case should have are
+   and the bytes of a prefix, one to four attempts in a row, the commands that follow them and a continuation. They are
+   fed with the attempts and without them, and memory, refusal and all replies from the last close on have to agree. In
+   every other four cases words are chosen, and the numbers of their bits are read as part of the memory. So all have to
+   agree where a Jump & Close comes next, by which a DM648 shows its totals: those that the case should have are
    taken, and others are 17.
-   Then one bit that the attempt wrote is left out of the following commands, and memory has to differ in the
-   bits left out, wherever the attempt changed them, and in no others; numbers may differ there only. And where a Request
+   Then one bit that an attempt wrote is left out of the following commands, and memory has to differ in the
+   bits left out, wherever the attempts changed them, and in no others; numbers may differ there only. And where a Request
    ends the prefix, a Start-Over alone, which is no attempt, has to leave its trace in the totals of a DM648, and in the
    numbers of either dialect. It ends with status 1 at the first failure, or (unless FIRST is given) when too little was
    met. */
@@ -22,6 +22,7 @@
 #include <time.h>
 
 enum { FED_LIMIT = 65536, GREETING_LENGTH = 6, COMMAND_LIMIT = 512, ATTEMPT_LIMIT = 6, LOAD_LIMIT = 40 };
+enum { IN_A_ROW_LIMIT = 4 };
 enum kind { LOAD, FILL, SETTING, KINDS };
 enum setting { BYTE_SETTING, HALF_SETTING, WORD_SETTING, FIELD_SETTING, OTHER_FIELD_SETTING };
 enum beginning { AFTER_START_WORD, AFTER_ENABLE, AFTER_REQUEST, AFTER_START_OVER, AFTER_NO_SECTION, BEGINNINGS };
@@ -44,10 +45,10 @@ struct retry_case {
     uint64_t number;
     struct map map;
     struct writer prefix;
-    struct writer attempt; /* with its close */
+    struct writer attempt; /* all attempts in a row, each with its close */
     struct writer following;
     struct writer continuation;
-    struct writer closing; /* a Jump & Close with the totals of a session that never had the attempt */
+    struct writer closing; /* a Jump & Close with the totals of a session that never had an attempt */
     struct writer wrong_closing;
     bool has_closing; /* some window has an entry address */
     bool has_halves;
@@ -55,13 +56,14 @@ struct retry_case {
     bool is_watched;
     struct choice choice;
     enum beginning beginning;
-    bool is_checked; /* the checksum is on when the attempt begins */
-    bool has_request;
+    bool is_checked; /* the checksum is on when the first attempt begins */
+    unsigned attempts; /* in a row */
+    unsigned requests; /* in them */
     struct commands attempted;
     struct commands repeated;
     size_t memory_length;
     uint8_t memory[MEMORY_LIMIT];
-    uint8_t attempt_bits[MEMORY_LIMIT]; /* a one for each bit of memory that the attempt writes */
+    uint8_t attempt_bits[MEMORY_LIMIT]; /* a one for each bit of memory that an attempt writes */
     uint8_t following_bits[MEMORY_LIMIT];
 };
 
@@ -74,6 +76,7 @@ struct outcome {
 
 struct tally {
     uint64_t beginnings[BEGINNINGS];
+    uint64_t in_a_row[IN_A_ROW_LIMIT];
     uint64_t by_halves;
     uint64_t for_dm648;
     uint64_t watched;
@@ -82,14 +85,14 @@ struct tally {
     uint64_t empty;
     uint64_t with_request;
     uint64_t over_seam[KINDS]; /* commands of attempts, all of them accepted */
-    uint64_t changed;          /* the attempt changed memory */
+    uint64_t changed;          /* the attempts changed memory */
     uint64_t refused;          /* in the continuation */
     uint64_t uncovered;        /* cases with a bit left out */
     uint64_t uncovered_single; /* exactly one */
     uint64_t uncovered_seen;   /* the bit left out had been changed, and memory differs there */
     uint64_t uncovered_same;   /* the bit left out had been written as it was */
     uint64_t closed[2];        /* entered by the closing, in each dialect */
-    uint64_t counted;          /* and of a DM648's, those with a section in the attempt */
+    uint64_t counted;          /* and of a DM648's, those with a section in an attempt */
     uint64_t no_attempt;       /* a Start-Over alone directly after a Request */
     uint64_t traced;           /* and of these, those that a DM648 saw */
     uint64_t traced_by_number; /* those that were seen in the numbers */
@@ -437,21 +440,35 @@ static void write_prefix(struct retry_case *retry_case)
     write_beginning(writer, retry_case->beginning, !retry_case->is_watched);
 }
 
-static void write_attempt(struct retry_case *retry_case)
+/* Commands, none or more, perhaps a Request, and a Start-Over. The first attempt may be no Start-Over alone after a
+   Request; a later one comes after a Start-Over. */
+static void write_attempt(struct retry_case *retry_case, bool is_first)
 {
     struct writer *writer = &retry_case->attempt;
     unsigned count = chance(&writer->random, 10) ? 0 : 1 + random_below(&writer->random, ATTEMPT_LIMIT);
+    bool must_ask = is_first && count == 0 && retry_case->beginning == AFTER_REQUEST;
+    struct commands commands = {.count = 0};
 
-    retry_case->attempted.count = 0;
     while (count-- > 0)
-        add_some_command(&retry_case->attempted, writer);
-    write_commands(writer, &retry_case->attempted);
-    /* A Start-Over alone directly after a Request is no attempt. */
-    retry_case->has_request = chance(&writer->random, 40) ||
-                              (retry_case->attempted.count == 0 && retry_case->beginning == AFTER_REQUEST);
-    if (retry_case->has_request)
+        add_some_command(&commands, writer);
+    write_commands(writer, &commands);
+    for (unsigned index = 0; index < commands.count; index++)
+        retry_case->attempted.list[retry_case->attempted.count++] = commands.list[index];
+    if (chance(&writer->random, 40) || must_ask) {
         write_sent_request(writer);
+        retry_case->requests++;
+    }
     write_switch(writer, OPCODE_START_OVER);
+}
+
+static void write_attempts(struct retry_case *retry_case)
+{
+    retry_case->attempted.count = 0;
+    retry_case->attempts = 0;
+    retry_case->requests = 0;
+    do
+        write_attempt(retry_case, retry_case->attempts++ == 0);
+    while (retry_case->attempts < IN_A_ROW_LIMIT && chance(&retry_case->attempt.random, 40));
 }
 
 static void write_following(struct retry_case *retry_case)
@@ -518,7 +535,7 @@ static bool may_be_written(const struct map *map)
     return false;
 }
 
-/* A part goes on with what the part before it has loaded; the attempt is before none. */
+/* A part goes on with what the part before it has loaded; the attempts are before none. */
 static void begin_part(struct retry_case *retry_case, struct writer *writer, uint64_t part, const struct writer *earlier)
 {
     writer->random = random_from(retry_case->seed ^ part << 56, retry_case->number);
@@ -550,7 +567,7 @@ static void make_retry_case(struct retry_case *retry_case, uint64_t seed, uint64
     write_prefix(retry_case);
     retry_case->is_checked = retry_case->prefix.checksum_on;
     begin_part(retry_case, &retry_case->attempt, 2, NULL);
-    write_attempt(retry_case);
+    write_attempts(retry_case);
     begin_part(retry_case, &retry_case->following, 3, &retry_case->prefix);
     write_following(retry_case);
     begin_part(retry_case, &retry_case->continuation, 4, &retry_case->following);
@@ -637,7 +654,7 @@ static bool expect(bool holds, const char *what)
 /* That the case is what it is meant to be: one acknowledgement for each command, and no bit uncovered. */
 static bool case_is_sound(const struct retry_case *retry_case)
 {
-    uint32_t acknowledged = 4 * retry_case->attempted.count + (retry_case->has_request ? 8 : 0) + 4;
+    uint32_t acknowledged = 4 * retry_case->attempted.count + 8 * retry_case->requests + 4 * retry_case->attempts;
     uint32_t following = 4 * retry_case->repeated.count;
     bool is_covered = true, is_confined = true;
 
@@ -646,15 +663,15 @@ static bool case_is_sound(const struct retry_case *retry_case)
         is_confined &= ((before.memory[index] ^ after.memory[index]) & ~retry_case->attempt_bits[index]) == 0;
     }
     return expect(refusal_of(&before) == 0, "the prefix is accepted") &&
-           expect(refusal_of(&after) == 0, "the attempt is accepted") &&
+           expect(refusal_of(&after) == 0, "the attempts are accepted") &&
            expect(refusal_of(&with) == 0, "the following commands are accepted") &&
-           expect(reply_count(&after) == reply_count(&before) + acknowledged, "the attempt is acknowledged") &&
+           expect(reply_count(&after) == reply_count(&before) + acknowledged, "the attempts are acknowledged") &&
            expect(reply_count(&with) == reply_count(&after) + following, "the following commands are acknowledged") &&
-           expect(is_covered, "the following commands cover the attempt") &&
-           expect(is_confined, "the attempt changes only bits that it writes");
+           expect(is_covered, "the following commands cover the attempts") &&
+           expect(is_confined, "the attempts change only bits that they write");
 }
 
-/* Replies up to the attempt, and from its close on, and the refusal. */
+/* Replies up to the attempts, and from the last close on, and the refusal. */
 static bool same_replies(void)
 {
     uint32_t earlier = reply_count(&before), closed = reply_count(&after);
@@ -662,7 +679,7 @@ static bool same_replies(void)
     if (!expect(reply_count(&with) >= closed && reply_count(&without) >= earlier, "no reply is lost") ||
         !expect(reply_count(&with) - closed == reply_count(&without) - earlier, "as many replies after the close"))
         return false;
-    return expect(memcmp(with.room, without.room, earlier) == 0, "the same replies before the attempt") &&
+    return expect(memcmp(with.room, without.room, earlier) == 0, "the same replies before the attempts") &&
            expect(memcmp(with.room + closed, without.room + earlier, reply_count(&with) - closed) == 0,
                   "the same replies after the close") &&
            expect(refusal_of(&with) == refusal_of(&without), "the same refusal");
@@ -746,7 +763,8 @@ static bool leaves_no_trace(const struct retry_case *retry_case, struct tally *t
     tally->watched += retry_case->is_watched;
     tally->checked += retry_case->is_checked;
     tally->empty += retry_case->attempted.count == 0;
-    tally->with_request += retry_case->has_request;
+    tally->with_request += retry_case->requests > 0;
+    tally->in_a_row[retry_case->attempts - 1]++;
     for (unsigned index = 0; index < retry_case->attempted.count; index++) {
         const struct command *command = &retry_case->attempted.list[index];
         tally->over_seam[command->kind] += is_over_seam(&retry_case->map, command);
@@ -916,33 +934,36 @@ static void print_tally(const struct tally *tally)
     static const char *const kinds[] = {"loads", "fills", "settings"};
 
     for (unsigned index = 0; index < BEGINNINGS; index++)
-        printf("attempts after %-24s%10" PRIu64 "\n", names[index], tally->beginnings[index]);
-    printf("%-39s%10" PRIu64 "\n", "attempts by halves, the others by bytes", tally->by_halves);
-    printf("%-39s%10" PRIu64 "\n", "attempts on a DM648, the others AM17xx", tally->for_dm648);
-    printf("%-39s%10" PRIu64 "\n", "attempts with words chosen", tally->watched);
+        printf("begun after %-27s%10" PRIu64 "\n", names[index], tally->beginnings[index]);
+    for (unsigned index = 0; index < IN_A_ROW_LIMIT; index++)
+        printf("cases with %u in a row%18s%10" PRIu64 "\n", index + 1, "", tally->in_a_row[index]);
+    printf("%-39s%10" PRIu64 "\n", "cases by halves, the others by bytes", tally->by_halves);
+    printf("%-39s%10" PRIu64 "\n", "cases on a DM648, the others AM17xx", tally->for_dm648);
+    printf("%-39s%10" PRIu64 "\n", "cases with words chosen", tally->watched);
     printf("%-39s%10" PRIu64 "\n", "  bits whose number is as expected", tally->numbered);
-    printf("%-39s%10" PRIu64 "\n", "attempts with the checksum on", tally->checked);
-    printf("%-39s%10" PRIu64 "\n", "attempts with no command", tally->empty);
-    printf("%-39s%10" PRIu64 "\n", "attempts with a Request", tally->with_request);
+    printf("%-39s%10" PRIu64 "\n", "cases with the checksum on", tally->checked);
+    printf("%-39s%10" PRIu64 "\n", "cases with no command in any attempt", tally->empty);
+    printf("%-39s%10" PRIu64 "\n", "cases with a Request in an attempt", tally->with_request);
     for (unsigned kind = 0; kind < KINDS; kind++)
         printf("%-9saccepted over a seam           %10" PRIu64 "\n", kinds[kind], tally->over_seam[kind]);
-    printf("%-39s%10" PRIu64 "\n", "attempts that changed memory", tally->changed);
+    printf("%-39s%10" PRIu64 "\n", "cases whose attempts changed memory", tally->changed);
     printf("%-39s%10" PRIu64 "\n", "continuations refused", tally->refused);
     printf("%-39s%10" PRIu64 "\n", "cases with a bit left uncovered", tally->uncovered);
     printf("%-39s%10" PRIu64 "\n", "  exactly one", tally->uncovered_single);
     printf("%-39s%10" PRIu64 "\n", "  changed, and the difference seen", tally->uncovered_seen);
     printf("%-39s%10" PRIu64 "\n", "  written as it was, and no difference", tally->uncovered_same);
-    printf("%-39s%10" PRIu64 "\n", "  with the attempt's number in it", tally->uncovered_number);
+    printf("%-39s%10" PRIu64 "\n", "  with an attempt's number in it", tally->uncovered_number);
     printf("%-39s%10" PRIu64 "\n", "closed and entered, AM17xx", tally->closed[0]);
     printf("%-39s%10" PRIu64 "\n", "closed and entered, DM648", tally->closed[1]);
-    printf("%-39s%10" PRIu64 "\n", "  with sections in the attempt", tally->counted);
+    printf("%-39s%10" PRIu64 "\n", "  with sections in an attempt", tally->counted);
     printf("%-39s%10" PRIu64 "\n", "a Start-Over alone after a Request", tally->no_attempt);
     printf("%-39s%10" PRIu64 "\n", "  and its trace seen in the totals", tally->traced);
     printf("%-39s%10" PRIu64 "\n", "  and in the numbers", tally->traced_by_number);
 }
 
-/* Every beginning, every kind over a seam, a difference seen in a tenth of the cases, totals that an attempt could have
-   spoilt in another tenth, and traces of what is no attempt in the totals and in the numbers. */
+/* Every beginning, one to four attempts in a row, every kind over a seam, a difference seen in a tenth of the cases,
+   totals that an attempt could have spoilt in another tenth, and traces of what is no attempt in the totals and in the
+   numbers. */
 static bool enough_met(const struct tally *tally, uint64_t count)
 {
     bool is_met = tally->by_halves > 0 && tally->for_dm648 > 0 && tally->empty > 0 && tally->with_request > 0;
@@ -952,6 +973,8 @@ static bool enough_met(const struct tally *tally, uint64_t count)
     is_met &= tally->counted >= count / 10 && tally->traced >= count / 50 && tally->no_attempt > tally->traced;
     for (unsigned index = 0; index < BEGINNINGS; index++)
         is_met &= tally->beginnings[index] > 0;
+    for (unsigned index = 0; index < IN_A_ROW_LIMIT; index++)
+        is_met &= tally->in_a_row[index] >= count / 50;
     for (unsigned kind = 0; kind < KINDS; kind++)
         is_met &= tally->over_seam[kind] > 0;
     return is_met;

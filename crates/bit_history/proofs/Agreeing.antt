@@ -1,7 +1,7 @@
--- What a step tells that it wrote, against what its history has: both stamp the same, where the first bit, the count and the number are the same, or where
--- there is no bit at all.
-use Prim.Native.Nat.{ℕ, _+_, _*_, _/_, _%_, _<_}
-use mathlib.Core.Bool.{Bool, true, false, _&&_}
+-- What a step tells and does to memory, against what its history has: both stamp the same, where the first bit, the count and the number are the same, or where
+-- there is no bit at all; and a bit of memory is then what the history says of it.
+use Prim.Native.Nat.{ℕ, _+_, _*_, _/_, _%_, _≤_, _<_}
+use mathlib.Core.Bool.{Bool, true, false, _&&_, or-false}
 use mathlib.Core.List.{List, [], _∷_, _++_}
 use mathlib.Core.Path.{_≡_, refl, sym, ap, ap₂, _∙_}
 use native.Mathlib.Omega.{arith}
@@ -9,18 +9,22 @@ use borrow.Author.Tests.{lt-ltb}
 use lib.Dec.{ltb}
 use lib.ListN.{length}
 use Rattle.words.specs.rules.Bits.{within}
-use Rattle.words.specs.rules.Bytes.{byte}
+use Rattle.words.specs.rules.Bytes.{byte, bitAt}
 use Rattle.words.specs.rules.Choice.{pick}
-use Rattle.words.proofs.Choice.{both}
-use Rattle.commands.specs.rules.Wrote.{firstBit, bitsWrote, noneWrote, shapeWrote}
+use Rattle.words.proofs.Choice.{passed, both}
+use Rattle.words.proofs.Ranges.{above}
+use Rattle.windows.specs.declared.Window.{Window}
+use Rattle.commands.specs.rules.Commands.{shapeOf, shapeJudged, settingJudged}
+use Rattle.commands.specs.rules.Wrote.{firstBit, noneWrote, shapeWrote, settingWrote}
+use Rattle.commands.specs.declared.Judged.the-variants.{Granted}
 use Rattle.commands.specs.declared.Shape.{Shape}
 use Rattle.commands.specs.declared.Shape.the-variants.{Bits, Wrong}
 use Rattle.commands.specs.declared.Wrote.{Wrote}
-use Rattle.law_effects.specs.claims.Effects.{Effect, settingEffect}
+use Rattle.law_effects.specs.claims.Effects.{Effect, writes, someWrites, Does}
 use Rattle.law_effects.specs.claims.Wrote.{Reports}
 use Rattle.bit_stamps.specs.rules.Stamps.{toldBit, isTold, stampedFrom, stamped}
 use Rattle.bit_stamps.proofs.Stamping.{none-written}
-use Rattle.bit_history.specs.claims.History.{Numbered, stampedAll, numbersFit}
+use Rattle.bit_history.specs.claims.History.{Numbered, anyWrites, lastOf, LeftBy, AsListed, wroteBy, stampedAll, numbersFit}
 use Rattle.bit_history.specs.claims.Accepted.{one}
 
 -- a stamp goes by the first bit, the count and the number
@@ -39,23 +43,68 @@ module _ (places : List ℕ) (v w : Wrote) (first : firstBit v ≡ firstBit w) (
 abbrev pub Agrees : Wrote → List Numbered → Type 0
 Agrees w cs = (entries places : List ℕ) → stamped entries places w ≡ stampedAll entries places cs
 
-pub agrees-none : (w : Wrote) → w .count ≡ 0 → Agrees w []
+agrees-none : (w : Wrote) → w .count ≡ 0 → Agrees w []
 unfolding stampedAll
 agrees-none w none entries places = none-written entries places w none
 
-pub agrees-one : (w : Wrote) (n : ℕ) (e : Effect) → Reports w e → w .number ≡ n → Agrees w (one n e)
+agrees-one : (w : Wrote) (c : Numbered) → Reports w (c .effect) → w .number ≡ c .number → Agrees w (c ∷ [])
 unfolding stampedAll
-agrees-one w n e reports number entries places =
-    let first : firstBit w ≡ 8 * 0 + e .first = omega (arith, reports .0) in
-    same-from places w (bitsWrote 0 (e .first) (e .count) n) first (reports .1) number 0 entries
+agrees-one w c reports number entries places =
+    let first : firstBit w ≡ 8 * 0 + c .effect .first = omega (arith, reports .0) in
+    same-from places w (wroteBy c) first (reports .1) number 0 entries
 
--- a shape at a place: a wrong one has no bit
-pub agrees-shape : (place value n : ℕ) (shape : Shape) → Agrees (shapeWrote place shape n) (one n (settingEffect place shape value))
-unfolding stampedAll
-agrees-shape place value n Wrong entries places =
-    none-written entries places noneWrote refl ∙ sym (none-written entries places (bitsWrote 0 0 0 n) refl)
-agrees-shape place value n (Bits unit start width field) entries places =
-    agrees-one (bitsWrote place start width n) n (settingEffect place (Bits unit start width field) value) (refl, refl) refl entries places
+-- what is told is what a history lists, and so is what is given to memory, inside it
+abbrev pub Told : List Numbered → Wrote → Type 0
+Told [] w = w ≡ noneWrote
+Told (c ∷ []) w = (w .number ≡ c .number) × Reports w (c .effect)
+Told (c ∷ d ∷ cs) w = ⊥
+
+abbrev pub Given : List Numbered → List ℕ → List ℕ → Type 0
+Given [] before after = after ≡ before
+Given (c ∷ []) before after = Does (c .effect) before after
+Given (c ∷ d ∷ cs) before after = ⊥
+
+abbrev pub Inside : List Numbered → List ℕ → Type 0
+Inside [] before = Unit {0}
+Inside (c ∷ []) before = c .effect .first + c .effect .count ≤ 8 * length before
+Inside (c ∷ d ∷ cs) before = ⊥
+
+pub agrees-told : (cs : List Numbered) (w : Wrote) → Told cs w → Agrees w cs
+agrees-told [] w told = agrees-none w (ap (λ (x : Wrote). x .count) told)
+agrees-told (c ∷ []) w told = agrees-one w c (told .1) (told .0)
+agrees-told (c ∷ d ∷ cs) w told = absurd told
+
+-- a bit is listed where it is told
+pub same-told-bits : (cs : List Numbered) (w : Wrote) → Told cs w → (p : ℕ) → anyWrites cs p ≡ within (firstBit w) (w .count) p
+unfolding someWrites
+same-told-bits [] w told p = sym (ap (λ (x : Wrote). within (firstBit x) (x .count) p) told ∙ above 0 0 p (omega arith))
+same-told-bits (c ∷ []) w told p =
+    or-false (writes (c .effect) p) ∙ sym (ap₂ (λ (b n : ℕ). within b n p) (told .1 .0) (told .1 .1))
+same-told-bits (c ∷ d ∷ cs) w told p = absurd told
+
+-- a bit after one command, or none
+pub left-given : (cs : List Numbered) (before after : List ℕ) → Given cs before after → LeftBy cs before after
+unfolding lastOf someWrites
+left-given [] before after given =
+    record { same-length = ap (λ (m : List ℕ). length m) given; each-bit = λ p h. ap (λ (m : List ℕ). bitAt m p) given }
+left-given (c ∷ []) before after given =
+    record { same-length = given .same-length; each-bit = λ p h. given .each-bit p h ∙ sym (passed false _ _ refl) }
+left-given (c ∷ d ∷ cs) before after given = absurd given
+
+-- all three together
+pub listed : (cs : List Numbered) (w : Wrote) (before after : List ℕ) → Told cs w → Given cs before after → Inside cs before → AsListed cs w before after
+listed [] w before after told given lies = (told, given)
+listed (c ∷ []) w before after told given lies = (told .0, record { reports = told .1; does = record { does = given; lies = lies } })
+listed (c ∷ d ∷ cs) w before after told given lies = told
+
+-- a setting that is granted tells by its number: its shape is not wrong
+pub setting-number : (windows : List Window) (word address value place number : ℕ) → settingJudged windows word address value ≡ Granted place
+    → settingWrote (Granted place) word number .number ≡ number
+setting-number windows word address value place number e = by-shape (shapeOf word) e
+  where
+    by-shape : (shape : Shape) → shapeJudged windows shape address value ≡ Granted place → shapeWrote place shape number .number ≡ number
+    by-shape Wrong e = absurd (let z : _≡_ {A = ℕ} 0 1 = cc in omega arith)
+    by-shape (Bits unit start width field) e = refl
 
 -- the numbers of one command, and of two histories
 pub fit-one : (n : ℕ) (e : Effect) → n < 65536 → numbersFit (one n e) ≡ true

@@ -1,4 +1,5 @@
--- Units of a sent session: one that ends a word is the word, any other writes nothing. So the entries are what the history says, unit by unit.
+-- Units of a sent session: one that ends a word is the word, any other writes nothing. So the entries, and the bits of memory, are what the history says, unit
+-- by unit.
 use Prim.Native.Nat.{ℕ, _+_, _-_, _*_}
 use mathlib.Core.Bool.{Bool, true, false, not, _&&_}
 use mathlib.Core.List.{List, [], _∷_}
@@ -14,14 +15,11 @@ use Rattle.windows.specs.declared.Window.{Window}
 use Rattle.opcodes.specs.declared.Dialect.{Dialect}
 use Rattle.opcodes.specs.declared.Refusal.{Refusal}
 use Rattle.opcodes.specs.declared.Refusal.the-variants as refusal
-use Rattle.commands.specs.rules.Wrote.{noneWrote}
-use Rattle.law_effects.specs.claims.Wrote.{Tells}
-use Rattle.law_effects.proofs.Wrote.{commands-tell}
 use Rattle.bit_stamps.specs.rules.Stamps.{entryAt}
-use Rattle.bit_history.specs.claims.History.{Numbered, numbersFit, stampedAll}
+use Rattle.bit_history.specs.claims.History.{Numbered, LeftBy, numbersFit, stampedAll}
 use Rattle.bit_history.proofs.History.{history-laws}
 use Rattle.sent.specs.rules.Bus.{unitsInWord, pushed}
-use Rattle.sent.specs.rules.Feeding.{State, next}
+use Rattle.sent.specs.rules.Feeding.{State, next, fed}
 use Rattle.sent.specs.rules.Line.{UnitOutcome, plainly, gathered, carried, isStart, unitStep}
 use Rattle.machine.specs.rules.Machine.{wordStep}
 use Rattle.sent.specs.rules.Opening.{openedBy, numberingFrom}
@@ -33,22 +31,23 @@ use Rattle.machine_answers.specs.declared.Reply.{Reply}
 use Rattle.sent.specs.declared.Session.{Session}
 use Rattle.bit_watch.specs.rules.Watched.{unitEntries, entriesAfter}
 use Rattle.bit_history.specs.claims.UnitHistory.{wordHistory, endsWord, unitHistory, history, atOpening, Led, opened, numbering, stepped, UnitsTell}
-use Rattle.bit_history.proofs.Agreeing.{Agrees, agrees-none, fit-both}
+use Rattle.bit_history.proofs.Agreeing.{Agrees, Told, Given, Inside, agrees-told, left-given, listed, fit-both}
 use Rattle.bit_history.proofs.Words.{Sound, word-shown}
 
 module _ (bus : Bus) (s : Session) (m : List ℕ) (u : ℕ) where
   -- what is shown of a unit with an outcome and a history
   record Shown (o : UnitOutcome) (cs : List Numbered) : Type 0 where
-    agrees : Agrees (o .answer .wrote) cs
+    told : Told cs (o .answer .wrote)
     fits : Sound (s .core) → numbersFit cs ≡ true
-    tells : Sound (s .core) → Tells (o .answer .wrote) m (o .memory)
+    given : Given cs m (o .memory)
+    inside : Sound (s .core) → Inside cs m
     sound : Sound (s .core) → Sound (o .answer .session .core)
 
   -- a unit that is no whole word
   plain-shown : (q : Refusal) (reply : Reply) (t : Session) → (Sound (s .core) → Sound (t .core)) → Shown (plainly q reply t m) []
   unfolding numbersFit
   plain-shown q reply t keeps =
-      record { agrees = agrees-none noneWrote refl; fits = λ h. refl; tells = λ h. commands-tell .nothing m; sound = keeps }
+      record { told = refl; fits = λ h. refl; given = refl; inside = λ h. tt; sound = keeps }
 
   abbrev word : ℕ
   word = pushed bus (s .line .word) u
@@ -75,13 +74,29 @@ module _ (bus : Bus) (s : Session) (m : List ℕ) (u : ℕ) where
   by-tests false true false true true lent = plain-shown refusal.None silence (gathered s true (s .line .have + 1) word) (λ h. h)
   by-tests false true false true false lent =
       let shown = word-shown (s .core) m word in
-      record { agrees = shown .agrees; fits = shown .fits; tells = λ h. shown .tells h (lent refl); sound = shown .sound }
+      record {
+        told = shown .told;
+        fits = shown .fits;
+        given = shown .given (lent refl);
+        inside = λ h. shown .inside h (lent refl);
+        sound = shown .sound;
+      }
 
   unit-shown : Shown (unitStep bus s m u) (unitHistory bus (record { session = s; memory = m }) u)
   unfolding unitStep endsWord
   unit-shown =
       by-tests (s .core .ended) (eqb (length m) (sumOf (s .core .windows))) (isStart bus s u) (s .line .started) (ltb (s .line .have) (unitsInWord bus - 1))
       (λ e. eqb-true _ _ e)
+
+  -- so it stamps what its history stamps, and leaves what its history says
+  abbrev listing : List Numbered
+  listing = unitHistory bus (record { session = s; memory = m }) u
+
+  unit-agrees : Agrees (unitStep bus s m u .answer .wrote) listing
+  unit-agrees = agrees-told listing (unitStep bus s m u .answer .wrote) (unit-shown .told)
+
+  unit-left : LeftBy listing m (unitStep bus s m u .memory)
+  unit-left = left-given listing m (unitStep bus s m u .memory) (unit-shown .given)
 
 module _ (bus : Bus) where
   stamps-law : (places entries : List ℕ) (x : State) (units : List ℕ)
@@ -91,8 +106,16 @@ module _ (bus : Bus) where
   stamps-law places entries x (u ∷ us) =
       stamps-law places (unitEntries places entries bus (x .session) (x .memory) u) (next bus x u) us
       ∙ ap (λ (es : List ℕ). stampedAll es places (history bus (next bus x u) us))
-      (unit-shown bus (x .session) (x .memory) u .agrees entries places)
+      (unit-agrees bus (x .session) (x .memory) u entries places)
       ∙ sym (history-laws .stamped-on entries places (unitHistory bus x u) (history bus (next bus x u) us))
+
+  pub values-law : (x : State) (units : List ℕ) → LeftBy (history bus x units) (x .memory) (fed bus x units .memory)
+  unfolding history fed
+  values-law x [] = left-given [] (x .memory) (x .memory) refl
+  values-law x (u ∷ us) =
+      let y : State = next bus x u in
+      history-laws .left-on (unitHistory bus x u) (history bus y us) (x .memory) (y .memory) (fed bus y us .memory)
+      (unit-left bus (x .session) (x .memory) u) (values-law y us)
 
   fit-law : (x : State) (units : List ℕ) → Sound (x .session .core) → numbersFit (history bus x units) ≡ true
   unfolding history numbersFit
@@ -132,5 +155,9 @@ module _ (bus : Bus) where
             let x : State = atOpening bus dialect count windows m in
             ap (λ (es : List ℕ). entryAt es j k) (stamps-law places (replicate (64 * length places) 0) x units)
             ∙ history-laws .told places (history bus x units) (opening-fits dialect count windows m units) j k h l;
-        memory = λ s led m u. unit-shown bus s m u .tells (led-sound s led);
+        unit = λ s led m u.
+            let shown = unit-shown bus s m u in
+            listed (listing bus s m u) (unitStep bus s m u .answer .wrote) m (unitStep bus s m u .memory) (shown .told) (shown .given)
+            (shown .inside (led-sound s led));
+        values = values-law;
       }

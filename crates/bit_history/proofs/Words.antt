@@ -1,5 +1,5 @@
--- A whole word: what it tells is what its history has, its numbers fit, it gives memory the bits that it tells, and the machine stays sound. By the phase that
--- awaits it and, at the last argument, by the command: only a fill, a setting and load data write.
+-- A whole word: what it tells, and what it gives to memory, is what its history has, its numbers fit, and the machine stays sound. By the phase that awaits it
+-- and, at the last argument, by the command: only a fill, a setting and load data write.
 use Prim.Native.Nat.{ℕ, _+_, _-_, _*_, _≤_, min}
 use mathlib.Core.Bool.{Bool, true, false}
 use mathlib.Core.List.{List, []}
@@ -31,11 +31,9 @@ use Rattle.commands.specs.rules.Wrote.{noneWrote, bytesWrote, settingWrote}
 use Rattle.commands.specs.declared.Done.{Done}
 use Rattle.commands.specs.declared.Judged.{Judged}
 use Rattle.commands.specs.declared.Judged.the-variants.{Granted, Refused}
-use Rattle.commands.specs.declared.Wrote.{Wrote}
-use Rattle.law_effects.specs.claims.Effects.{loadEffect, fillEffect, settingEffect}
-use Rattle.law_effects.specs.claims.Wrote.{Reports, Tells}
-use Rattle.law_effects.proofs.Effects.{load-does}
-use Rattle.law_effects.proofs.Wrote.{fill-reports, commands-tell}
+use Rattle.law_effects.specs.claims.Effects.{fillEffect, settingEffect}
+use Rattle.law_effects.proofs.Effects.{load-does, fill-granted, setting-granted}
+use Rattle.law_effects.proofs.Wrote.{fill-reports, shape-reports}
 use Rattle.bit_history.specs.claims.History.{Numbered, numbersFit}
 use Rattle.machine_answers.specs.rules.Answers.{WordOutcome, _leaving_, await, quiet, writing, after, entered}
 use Rattle.machine_answers.specs.rules.Counts.{countedOn}
@@ -50,7 +48,7 @@ use Rattle.machine_answers.specs.declared.Taken.{Taken}
 use Rattle.machine_loads.proofs.Laws.{granted-inside}
 use Rattle.bit_history.specs.claims.Accepted.{judgedOne}
 use Rattle.bit_history.specs.claims.UnitHistory.{lastWord, acceptedWord, wordHistory}
-use Rattle.bit_history.proofs.Agreeing.{Agrees, agrees-none, agrees-one, agrees-shape, fit-one, same-choice}
+use Rattle.bit_history.proofs.Agreeing.{Told, Given, Inside, setting-number, fit-one, same-choice}
 
 -- no number is past the first that no command gets
 abbrev pub Fit : Totals → Type 0
@@ -68,9 +66,10 @@ Sound k = Fit (k .tally .totals) × Lies (k .windows) (k .stage .phase)
 
 -- what is shown of a word with an outcome and a history
 pub record Shown (k : Core) (m : List ℕ) (o : WordOutcome) (cs : List Numbered) : Type 0 where
-  pub agrees : Agrees (o .answer .wrote) cs
+  pub told : Told cs (o .answer .wrote)
   pub fits : Sound k → numbersFit cs ≡ true
-  pub tells : Sound k → length m ≡ sumOf (k .windows) → Tells (o .answer .wrote) m (o .memory)
+  pub given : length m ≡ sumOf (k .windows) → Given cs m (o .memory)
+  pub inside : Sound k → length m ≡ sumOf (k .windows) → Inside cs m
   pub sound : Sound k → Sound (o .answer .core)
 
 -- a word that writes nothing
@@ -82,14 +81,7 @@ record Idle (k : Core) (m : List ℕ) (o : WordOutcome) : Type 0 where
 idle-shown : (k : Core) (m : List ℕ) (o : WordOutcome) → Idle k m o → Shown k m o []
 unfolding numbersFit
 idle-shown k m o idle =
-    record {
-      agrees = agrees-none (o .answer .wrote) (ap (λ (w : Wrote). w .count) (idle .wrote));
-      fits = λ s. refl;
-      tells = λ s lent.
-          subst (λ (w : Wrote). Tells w m (o .memory)) (sym (idle .wrote))
-          (subst (Tells noneWrote m) (sym (idle .memory)) (commands-tell .nothing m));
-      sound = idle .sound;
-    }
+    record { told = idle .wrote; fits = λ s. refl; given = λ lent. idle .memory; inside = λ s lent. tt; sound = idle .sound }
 
 idle-choice : (k : Core) (m : List ℕ) (o : WordOutcome) (t : Bool) → Idle k m o → Shown k m o (pick t [] [])
 idle-choice k m o t idle = subst (Shown k m o) (sym (same-choice t)) (idle-shown k m o idle)
@@ -228,10 +220,12 @@ module _ (k : Core) (m : List ℕ) where
     fill-shown (Granted place) true spent e f = idle-shown k m (filling (Refused refusal.Overflow)) (fill-refused refusal.Overflow)
     fill-shown (Granted place) false true e f = idle-shown k m (filling (Refused refusal.Number)) (fill-refused refusal.Number)
     fill-shown (Granted place) false false e f =
+        let n : ℕ = k .tally .totals .next in
         record {
-          agrees = agrees-one _ _ _ (fill-reports (k .windows) address size kind pattern place (k .tally .totals .next) f) refl;
+          told = (refl, fill-reports (k .windows) address size kind pattern place n f);
           fits = λ s. fit-one _ _ (leb-false _ _ e);
-          tells = λ s lent. commands-tell .fill (k .windows) m lent address size kind pattern place (k .tally .totals .next) f;
+          given = λ lent. fill-granted (k .windows) m lent address size kind pattern f .does;
+          inside = λ s lent. fill-granted (k .windows) m lent address size kind pattern f .lies;
           sound = fill-sound (Granted place);
         }
 
@@ -259,10 +253,12 @@ module _ (k : Core) (m : List ℕ) where
     setting-shown (Refused q) spent e f = idle-choice k m (setting (Refused q)) (eqb (codeOf (setting (Refused q) .answer .refusal)) 0) (setting-refused q)
     setting-shown (Granted place) true e f = idle-shown k m (setting (Refused refusal.Number)) (setting-refused refusal.Number)
     setting-shown (Granted place) false e f =
+        let n : ℕ = k .tally .totals .next in
         record {
-          agrees = agrees-shape place value (k .tally .totals .next) (shapeOf word);
+          told = (setting-number (k .windows) word address value place n f, shape-reports place value n (shapeOf word));
           fits = λ s. fit-one _ _ (leb-false _ _ e);
-          tells = λ s lent. commands-tell .setting (k .windows) m lent word address value place (k .tally .totals .next) f;
+          given = λ lent. setting-granted (k .windows) m lent word address value f .does;
+          inside = λ s lent. setting-granted (k .windows) m lent word address value f .lies;
           sound = setting-sound (Granted place);
         }
 
@@ -270,21 +266,15 @@ module _ (k : Core) (m : List ℕ) where
   data-shown : (end left word : ℕ) → k .stage .phase ≡ phase.Data end left
       → Shown k m (inPhase (phase.Data end left) k m word) (acceptedWord (phase.Data end left) k word)
   data-shown end left word e =
-      let n : ℕ = k .tally .totals .next in
       let bytes : List ℕ = dataBytes word left in
       let size : length bytes ≡ min left 4 = length-take left _ in
-      let reports : Reports (bytesWrote (Granted (end - left)) (min left 4) (n - 1)) (loadEffect (end - left) bytes) =
-      (omega arith, ap (λ (b : ℕ). 8 * b) (sym size)) in
       record {
-        agrees = agrees-one _ _ (loadEffect (end - left) bytes) reports refl;
+        told = (refl, (omega arith, ap (λ (b : ℕ). 8 * b) (sym (length-take left _))));
         fits = λ s. fit-one _ _ (omega (arith, s .0 .0));
-        tells = λ s lent.
+        given = λ lent. load-does m (end - left) bytes;
+        inside = λ s lent.
             let lies = subst (Lies (k .windows)) e (s .1) in
-            record {
-              effect = loadEffect (end - left) bytes;
-              reports = reports;
-              does = record { does = load-does m (end - left) bytes; lies = omega (arith, size, lent, lies .0, lies .1) };
-            };
+            omega (arith, size, lent, lies .0, lies .1);
         sound = λ s.
             let lies = subst (Lies (k .windows)) e (s .1) in
             (s .0, lies-awaited (k .windows) end (left - 4) (omega (arith, lies .0)) (lies .1));

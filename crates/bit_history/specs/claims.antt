@@ -1,4 +1,5 @@
 pub mod Accepted
 pub mod CallHistory
 pub mod History
+pub mod LoadHistory
 pub mod UnitHistory

@@ -21,6 +21,7 @@ use Rattle.opcodes.specs.declared.Found.{Found}
 use Rattle.opcodes.specs.declared.Mode.the-variants.{Flash}
 use Rattle.opcodes.specs.declared.Refusal.{Refusal}
 use Rattle.opcodes.specs.declared.Refusal.the-variants as refusal
+use Rattle.ledger.specs.claims.Booked.{Room}
 use Rattle.ledger.specs.rules.Totals.{differs, isSpent}
 use Rattle.ledger.specs.declared.Happening.{Happening}
 use Rattle.ledger.specs.declared.Happening.the-variants as happened
@@ -33,7 +34,7 @@ use Rattle.commands.specs.declared.Judged.{Judged}
 use Rattle.commands.specs.declared.Sought.{Sought}
 use Rattle.commands.specs.rules.Wrote.{noneWrote}
 use Rattle.commands.specs.declared.Wrote.{Wrote}
-use Rattle.flash_commands.specs.claims.Ways.{dataWordsOf, named, happening, Fits, argumentWords, met, Reads, spares, Way, forward, back, kept, Call}
+use Rattle.flash_commands.specs.claims.Ways.{dataWordsOf, named, happening, argumentWords, met, Reads, spares, Way, forward, back, kept, Call}
 use Rattle.flash_commands.specs.claims.Commands.{Ready, EveryCommand}
 use Rattle.flash_session.specs.rules.Sessions.{changed, countedOn, fetching, unchanged, stopped, acceptedAs, after}
 use Rattle.flash_commands.specs.rules.Commands.{overflowing, outOfNumbers, soughtAs, requested, entered}
@@ -121,7 +122,7 @@ module _ (s : Session) (image : List ℕ) where
 
     -- accepted, past the words of the command
     passes : {c : Command} {words : ℕ} {told : Event} {over switch : Bool} {checksum offset fetched : ℕ} {wrote : Wrote} → Reads s image c words
-        → offset ≡ s .offset + 4 * words → fetched ≡ countedOn (s .fetched) words → Fits s (what c) → over ≡ eqb (kindOf told) 3
+        → offset ≡ s .offset + 4 * words → fetched ≡ countedOn (s .fetched) words → Room (s .dialect) (s .totals) (what c) → over ≡ eqb (kindOf told) 3
         → (kindOf told ≡ 3 → (c ≡ command.JumpAndClose) × (differs (s .dialect) (s .totals) (named s image) ≡ false))
         → Call s image (acceptedAs s (what c) wrote told (changed s over switch checksum offset (s .retries) fetched (s .totals)))
     passes {c} {words} reads past all fits ended entering =
@@ -145,7 +146,7 @@ module _ (s : Session) (image : List ℕ) where
 
     -- accepted with no event of entering, and going on
     pub goes-on : {c : Command} {words : ℕ} {told : Event} {switch : Bool} {checksum offset fetched : ℕ} {wrote : Wrote} → kindOf told ≢ 3
-        → Reads s image c words → offset ≡ s .offset + 4 * words → fetched ≡ countedOn (s .fetched) words → Fits s (what c)
+        → Reads s image c words → offset ≡ s .offset + 4 * words → fetched ≡ countedOn (s .fetched) words → Room (s .dialect) (s .totals) (what c)
         → Call s image (acceptedAs s (what c) wrote told (changed s (s .ended) switch checksum offset (s .retries) fetched (s .totals)))
     goes-on other reads past all fits = passes reads past all fits (standing ∙ sym (ne-eqb _ _ other)) (λ e. absurd (other e))
 
@@ -161,7 +162,7 @@ module _ (s : Session) (image : List ℕ) where
 
       -- that was judged
       after-call : {c : Command} {kind : ℕ} {done : Done} (wrote : Wrote) → kind ≢ 3 → Answers kind done → Reads s image c n
-          → (codeOf (done .refusal) ≡ 0 → Fits s (what c)) → Call s image (after fetched (what c) wrote done (s .offset + 4 * n))
+          → (codeOf (done .refusal) ≡ 0 → Room (s .dialect) (s .totals) (what c)) → Call s image (after fetched (what c) wrote done (s .offset + 4 * n))
       unfolding after
       after-call wrote other (accepts e k) reads fits =
           subst (Call s image) (sym (chosen _ _ _ (eq-eqb _ _ e))) (goes-on (λ z. other (sym k ∙ z)) reads refl refl (fits e))

@@ -17,6 +17,7 @@ use Rattle.opcodes.specs.declared.Dialect.{Dialect}
 use Rattle.opcodes.specs.declared.Dialect.the-variants.{Am17xx, Dm648}
 use Rattle.opcodes.specs.declared.Found.{Found}
 use Rattle.ledger.specs.claims.Agreement.{plus}
+use Rattle.ledger.specs.claims.Booked.{Room}
 use Rattle.ledger.specs.rules.Totals.{atOpening, wouldPass, differs, following, numberedAs, inFlash}
 use Rattle.ledger.specs.declared.Happening.{Happening}
 use Rattle.ledger.specs.declared.Happening.the-variants as happened
@@ -33,7 +34,7 @@ use Rattle.commands.specs.declared.Judged.the-variants.{Granted, Refused}
 use Rattle.commands.specs.declared.Sought.{Sought}
 use Rattle.commands.specs.declared.Sought.the-variants as sought
 use Rattle.commands.specs.declared.Wrote.{Wrote}
-use Rattle.flash_commands.specs.claims.Ways.{named, happening, Fits, Way, forward, back, kept, Call}
+use Rattle.flash_commands.specs.claims.Ways.{named, happening, Way, forward, back, kept, Call}
 use Rattle.flash_session.specs.rules.Opening.{openedBy}
 use Rattle.flash_laws.specs.claims.Reached.{Reached, opened, called}
 use Rattle.flash_session.specs.rules.Sessions.{CallOutcome, goTo, withTotals, fetching, acceptedAs, after}
@@ -49,7 +50,9 @@ use Rattle.flash_laws.proofs.Calls.{every-call}
 -- what a command that goes forward leaves standing
 module _ (s : Session) (size : ℕ) (dialect : s .dialect ≡ Dm648) where
   abbrev Stands : Command → Type 0
-  Stands c = Fits s (happening c size) → inFlash (s .dialect) (s .totals) (happening c size) .now ≡ plus (s .totals .now) (sizesIn (happening c size))
+  Stands c =
+      Room (s .dialect) (s .totals) (happening c size)
+      → inFlash (s .dialect) (s .totals) (happening c size) .now ≡ plus (s .totals .now) (sizesIn (happening c size))
 
   section-stands : wouldPass (s .dialect) (s .totals) size ≡ false
       → inFlash (s .dialect) (s .totals) (happened.Section size) .now ≡ plus (s .totals .now) (size ∷ [])

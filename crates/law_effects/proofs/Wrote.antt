@@ -13,7 +13,7 @@ use Rattle.commands.specs.declared.Shape.{Shape}
 use Rattle.commands.specs.declared.Shape.the-variants.{Bits, Wrong}
 use Rattle.commands.specs.declared.UnitType.{UnitType}
 use Rattle.commands.specs.declared.UnitType.the-variants.{Of, Other}
-use Rattle.law_effects.specs.claims.Effects.{noEffect, loadEffect, fillEffect, settingEffect, DoesInside}
+use Rattle.law_effects.specs.claims.Effects.{noEffect, fillEffect, settingEffect, DoesInside}
 use Rattle.law_effects.specs.claims.Wrote.{Reports, CommandsTell}
 use Rattle.law_effects.proofs.Effects.{load-granted, fill-granted, setting-granted}
 
@@ -38,19 +38,14 @@ shape-reports place value number (Bits unit start width field) = (refl, refl)
 pub commands-tell : CommandsTell
 commands-tell =
     record {
-      nothing = λ m. record { effect = noEffect; reports = (refl, refl); does = none-does m };
+      nothing = λ m. record { reports = (refl, refl); does = none-does m };
       load = λ windows m lent address place number bytes e.
-          record { effect = loadEffect place bytes; reports = (omega arith, refl); does = load-granted windows m lent address bytes e };
+          record { reports = (omega arith, refl); does = load-granted windows m lent address bytes e };
       fill = λ windows m lent address size kind pattern place number e.
           record {
-            effect = fillEffect place size (unitOf kind) pattern;
             reports = fill-reports windows address size kind pattern place number e;
             does = fill-granted windows m lent address size kind pattern e;
           };
       setting = λ windows m lent word address value place number e.
-          record {
-            effect = settingEffect place (shapeOf word) value;
-            reports = shape-reports place value number (shapeOf word);
-            does = setting-granted windows m lent word address value e;
-          };
+          record { reports = shape-reports place value number (shapeOf word); does = setting-granted windows m lent word address value e };
     }

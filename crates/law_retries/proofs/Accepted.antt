@@ -25,7 +25,7 @@ use Rattle.sent.specs.declared.Bus.{Bus}
 use Rattle.machine_answers.specs.declared.Core.{Core}
 use Rattle.machine_answers.specs.declared.Phase.the-variants.{Opcode}
 use Rattle.machine_answers.specs.declared.Tally.{Tally}
-use Rattle.machine.proofs.Granted.{GrantedAt, Numbered, numbers, last-numbered, section-numbered, section-counts, load-not-refused, done-not-refused}
+use Rattle.machine_loads.proofs.Granted.{GrantedAt, Numbered, numbers, last-numbered, section-numbered, section-counts, load-not-refused, done-not-refused}
 use Rattle.law_retries.specs.claims.Pieces.{Piece, load, fill, setting, wordsOf, Sendable, judgedOf, loadOpcode, fillOpcode, settingOpcode}
 use Rattle.law_retries.proofs.Taking.{writeOf, Room, running, awaiting, load-apart, fill-apart, setting-apart, load-row, fill-row, setting-row}
 use Rattle.law_retries.proofs.Taking.{command-accepted}

@@ -1,6 +1,6 @@
 -- The worked instance on either line, by computing and by the theorem; and the counterexamples, by computing.
 use Prim.Native.Nat.{ℕ, zero, suc, _<_, _^_}
-use mathlib.Core.Bool.{Bool, true, false, _&&_, true≢false, false≢true}
+use mathlib.Core.Bool.{Bool, true, false, _&&_, _||_, true≢false, false≢true}
 use mathlib.Core.List.{List, [], _∷_, _++_, map}
 use mathlib.Core.Path.{_≡_, refl, sym, ap, _∙_}
 use lib.Dec.{eqb, ltb, lit<}
@@ -15,7 +15,7 @@ use Rattle.opcodes.specs.declared.Refusal.the-variants.{None, Memory}
 use Rattle.words.specs.rules.Bits.{bit, join, withField, within}
 use Rattle.words.specs.rules.Bytes.{byte, number, bytesAt, put, fits, fieldFits, fieldWritten}
 use Rattle.words.specs.rules.Choice.{pick}
-use Rattle.words.proofs.Choice.{both}
+use Rattle.words.proofs.Choice.{chosen, both}
 use Rattle.checksum.specs.rules.Checksum as feeding
 use Rattle.windows.specs.rules.Window.{hasRight, inside, grantsRange, placeFrom, placeOf, sumOf}
 use Rattle.windows.specs.rules.Map.{soundWindow, allSound, rising, goodMap, keptOf}
@@ -37,14 +37,15 @@ use Rattle.sent.specs.rules.Line.{startAnswer}
 use Rattle.sent.specs.declared.Bus.{Bus}
 use Rattle.sent.specs.declared.Bus.the-variants.{Bytes, Halves}
 use Rattle.sent.proofs.Feeding.{none-refused-by}
-use Rattle.law_retries.specs.claims.Example.{windows, before, startedTo, startTo, start, sent, abandoned, repeated, oneLoad, Worked, missing}
+use Rattle.law_retries.specs.claims.Example.{windows, before, startedTo, startTo, start, sent, abandoned, repeated, oneLoad, fourth, tried, meant}
+use Rattle.law_retries.specs.claims.Example.{Worked, twice, WorkedTwice, missing}
 use Rattle.law_retries.specs.claims.Example.{OneBitMissed, middle, nothing, InTheMiddle, requested, StartOverAlone, unmarked, NotLevel, setOnce}
 use Rattle.law_retries.specs.claims.Example.{NumberNotLevel, started, NothingFollows, shorter, short, MemoryTooShort}
 use Rattle.law_retries.specs.claims.Pieces.{allWords, AllSendable, effectOf, anyWrites}
 use Rattle.law_retries.specs.claims.Retries.{after, Awaits, sinceOpening, Reached, Idle, AtStart, JustAfter, after-start, after-enable, attemptWords}
-use Rattle.law_retries.specs.claims.Retries.{Retried}
+use Rattle.law_retries.specs.claims.Retries.{attemptsWords, attemptsPieces, NotAlone, Retried}
 use Rattle.law_retries.proofs.Beginnings.{beginnings}
-use Rattle.law_retries.proofs.Retries.{retries-leave-no-trace}
+use Rattle.law_retries.proofs.Retries.{retries-leave-no-trace, many-retries-leave-no-trace}
 
 -- bytes by a test
 unfoldable allSmall : List ℕ → Bool
@@ -79,31 +80,67 @@ quiet bus words = replicate (length (allUnits bus words)) None
 eight : {a b : ℕ} → a ≡ 8 → b ≡ 8 → a ≡ b
 eight e f = cc
 
--- all that is computed of the instance
-record Computed (bus : Bus) (dialect : Dialect) : Type 0 where
-  answered : heard bus (sinceOpening true bus dialect 1 windows before []) (startUnit bus) .reply ≡ startAnswer bus
-  idle : Idle (started bus dialect)
-  tried : refusals bus (start bus dialect) (attemptWords abandoned) ≡ quiet bus (attemptWords abandoned)
-  after-tried : refusals bus (after bus (start bus dialect) (attemptWords abandoned)) (allWords repeated) ≡ quiet bus (allWords repeated)
-  same-bits : (p : ℕ) → anyWrites (start bus dialect .session .core .windows) (abandoned .pieces) p ≡ anyWrites (start bus dialect .session .core .windows)
-      repeated p
-  after-attempt : after bus (start bus dialect) (attemptWords abandoned) .memory ≡ 0x2F ∷ 0x0F ∷ 0 ∷ 0 ∷ 1 ∷ 2 ∷ 3 ∷ 0xAA ∷ []
-  after-repeat : after bus (start bus dialect) (attemptWords abandoned ++ allWords repeated) .memory ≡ 0x1F ∷ 0x02 ∷ 0 ∷ 0 ∷ 0x11 ∷ 0x22 ∷ 0x33 ∷ 0xAA ∷ []
-  never-tried : after bus (start bus dialect) (allWords repeated) .memory ≡ 0x1F ∷ 0x02 ∷ 0 ∷ 0 ∷ 0x11 ∷ 0x22 ∷ 0x33 ∷ 0xAA ∷ []
-  counted : totals (after bus (start bus dialect) (attemptWords abandoned ++ allWords repeated)) .now ≡ oneLoad dialect
-  numbered : totals (after bus (start bus dialect) (attemptWords abandoned ++ allWords repeated)) .next ≡ 4
-  unasked : totals (start bus dialect) .asked ≡ false
+-- the bits that the attempt writes, and that both attempts write: two fields and three bytes
+abbrev bitsOnce : ℕ → Bool
+bitsOnce p = within 4 3 p || (within 8 4 p || (within 32 24 p || false))
 
-computed : (bus : Bus) (dialect : Dialect) → Computed bus dialect
+abbrev bitsTwice : ℕ → Bool
+bitsTwice p = within 4 3 p || (within 8 4 p || (within 32 24 p || (within 4 3 p || false)))
+
+no-more : (a b c : Bool) → (a || (b || (c || (a || false)))) ≡ (a || (b || (c || false)))
+no-more true b c = refl
+no-more false true c = refl
+no-more false false true = refl
+no-more false false false = refl
+
+-- all that is computed of the instance
+record Computed (numbers : Bool) (bus : Bus) (dialect : Dialect) : Type 0 where
+  answered : heard bus (sinceOpening numbers bus dialect 1 windows before []) (startUnit bus) .reply ≡ startAnswer bus
+  idle : Idle (startedTo numbers bus dialect)
+  refused-tried : refusals bus (startTo numbers bus dialect) (attemptWords abandoned) ≡ quiet bus (attemptWords abandoned)
+  after-tried : refusals bus (after bus (startTo numbers bus dialect) (attemptWords abandoned)) (allWords repeated) ≡ quiet bus (allWords repeated)
+  attempt-bits : (p : ℕ) → anyWrites (startTo numbers bus dialect .session .core .windows) (abandoned .pieces) p ≡ bitsOnce p
+  repeat-bits : (p : ℕ) → anyWrites (startTo numbers bus dialect .session .core .windows) repeated p ≡ bitsOnce p
+  after-attempt : after bus (startTo numbers bus dialect) (attemptWords abandoned) .memory ≡ tried
+  after-repeat : after bus (startTo numbers bus dialect) (attemptWords abandoned ++ allWords repeated) .memory ≡ meant
+  never-tried : after bus (startTo numbers bus dialect) (allWords repeated) .memory ≡ meant
+  counted : totals (after bus (startTo numbers bus dialect) (allWords repeated)) .now ≡ oneLoad dialect
+  numbered : totals (after bus (startTo numbers bus dialect) (allWords repeated)) .next ≡ fourth numbers
+  unasked : totals (startTo numbers bus dialect) .asked ≡ false
+
+computed : (numbers : Bool) (bus : Bus) (dialect : Dialect) → Computed numbers bus dialect
 unfolding bit join withField within byte number bytesAt put fits fieldFits fieldWritten pick feeding.shifted feeding.fedBit feeding.fed
     feeding.fedWords hasRight inside grantsRange placeFrom placeOf sumOf soundWindow allSound rising goodMap keptOf rows rowServes foundIn
     lookedUp multiple rangeJudged loadJudged loaded unitOf unitsJudged fieldShape shapeOf tooWide settingDone settingMemory isPast pushed carried isStart
     unitStep
     afterCommand awaited acknowledging wordStep openedBy numberingFrom following startAnswer startTo fed allWords answers startedTo effectOf someWrites
-computed Bytes Am17xx = search
-computed Bytes Dm648 = search
-computed Halves Am17xx = search
-computed Halves Dm648 = search
+computed true Bytes Am17xx = search
+computed true Bytes Dm648 = search
+computed true Halves Am17xx = search
+computed true Halves Dm648 = search
+computed false Bytes Am17xx = search
+computed false Bytes Dm648 = search
+computed false Halves Am17xx = search
+computed false Halves Dm648 = search
+
+-- and of two attempts
+record ComputedTwice (bus : Bus) (dialect : Dialect) : Type 0 where
+  refused-twice : refusals bus (start bus dialect) (attemptsWords twice) ≡ quiet bus (attemptsWords twice)
+  after-twice : refusals bus (after bus (start bus dialect) (attemptsWords twice)) (allWords repeated) ≡ quiet bus (allWords repeated)
+  twice-bits : (p : ℕ) → anyWrites (start bus dialect .session .core .windows) (attemptsPieces twice) p ≡ bitsTwice p
+  after-both : after bus (start bus dialect) (attemptsWords twice) .memory ≡ 0x4F ∷ 0x0F ∷ 0 ∷ 0 ∷ 1 ∷ 2 ∷ 3 ∷ 0xAA ∷ []
+
+computed-twice : (bus : Bus) (dialect : Dialect) → ComputedTwice bus dialect
+unfolding bit join withField within byte number bytesAt put fits fieldFits fieldWritten pick feeding.shifted feeding.fedBit feeding.fed
+    feeding.fedWords hasRight inside grantsRange placeFrom placeOf sumOf soundWindow allSound rising goodMap keptOf rows rowServes foundIn
+    lookedUp multiple rangeJudged loadJudged loaded unitOf unitsJudged fieldShape shapeOf tooWide settingDone settingMemory isPast pushed carried isStart
+    unitStep
+    afterCommand awaited acknowledging wordStep openedBy numberingFrom following startAnswer startTo fed allWords attemptsWords attemptsPieces answers startedTo
+    effectOf someWrites
+computed-twice Bytes Am17xx = search
+computed-twice Bytes Dm648 = search
+computed-twice Halves Am17xx = search
+computed-twice Halves Dm648 = search
 
 -- how many sections were counted
 abbrev sectionsOf : State → ℕ
@@ -115,7 +152,10 @@ record Against : Type 0 where
   bit-left : eqb (getD (after Bytes (start Bytes Am17xx) (attemptWords abandoned ++ allWords missing) .memory) 0 0)
       (getD (after Bytes (start Bytes Am17xx) (allWords missing) .memory) 0 0) ≡ false
   awaits-middle : Awaits middle
+  register-middle : eqb (checksum middle) 0 ≡ false
   level-middle : Level (totals middle)
+  unnumbered-middle : totals middle .next ≡ 0
+  settled-middle : totals middle .asked ≡ false
   middle-tried : refusals Bytes middle (attemptWords nothing) ≡ quiet Bytes (attemptWords nothing)
   after-middle : refusals Bytes (after Bytes middle (attemptWords nothing)) (allWords repeated) ≡ quiet Bytes (allWords repeated)
   register-lost : eqb (checksum (after Bytes middle (attemptWords nothing ++ allWords repeated))) (checksum (after Bytes middle (allWords repeated))) ≡ false
@@ -141,6 +181,7 @@ record Against : Type 0 where
   after-set : refusals Bytes (after Bytes setOnce (attemptWords nothing)) (allWords repeated) ≡ quiet Bytes (allWords repeated)
   number-lost : eqb (totals (after Bytes setOnce (attemptWords nothing ++ allWords repeated)) .next) (totals (after Bytes setOnce (allWords repeated)) .next)
       ≡ false
+  settled-started : totals (started Bytes Am17xx) .asked ≡ false
   started-tried : refusals Bytes (started Bytes Am17xx) (attemptWords nothing) ≡ quiet Bytes (attemptWords nothing)
   acknowledged-one : after Bytes (started Bytes Am17xx) (attemptWords nothing ++ []) .session .core .begun ≡ true
   acknowledged-none : after Bytes (started Bytes Am17xx) [] .session .core .begun ≡ false
@@ -165,7 +206,10 @@ against = record {
     fresh = (refl, refl);
     opcode = refl;
   };
+  register-middle = refl;
   level-middle = (refl, refl);
+  unnumbered-middle = refl;
+  settled-middle = refl;
   middle-tried = refl;
   after-middle = refl;
   register-lost = refl;
@@ -209,6 +253,7 @@ against = record {
   set-tried = refl;
   after-set = refl;
   number-lost = refl;
+  settled-started = refl;
   started-tried = refl;
   acknowledged-one = refl;
   acknowledged-none = refl;
@@ -217,68 +262,110 @@ against = record {
 }
 
 -- units lead there from an opening, and the attempts begin just after the start unit and just after an Enable
-reached : (bus : Bus) (dialect : Dialect) (m units : List ℕ) → allSmall m ≡ true → Reached bus (sinceOpening true bus dialect 1 windows m units)
-reached bus dialect m units small = record {
-  numbers = true;
-  dialect = dialect;
-  count = 1;
-  windows = windows;
-  memory = m;
-  sent = units;
-  bytes = bytes-by m
-      small;
-  leads = refl;
-}
+reached : (numbers : Bool) (bus : Bus) (dialect : Dialect) (m units : List ℕ) → allSmall m ≡ true
+    → Reached bus (sinceOpening numbers bus dialect 1 windows m units)
+reached numbers bus dialect m units small =
+    record {
+      numbers = numbers;
+      dialect = dialect;
+      count = 1;
+      windows = windows;
+      memory = m;
+      sent = units;
+      bytes = bytes-by m small;
+      leads = refl;
+    }
 
 started-after : (bus : Bus) (dialect : Dialect) → JustAfter bus (started bus dialect)
 unfolding startedTo fed allSmall
-started-after bus dialect = after-start (startUnit bus) (reached bus dialect before [] refl) (computed bus dialect .answered)
+started-after bus dialect = after-start (startUnit bus) (reached true bus dialect before [] refl) (computed true bus dialect .answered)
 
-start-after : (bus : Bus) (dialect : Dialect) → JustAfter bus (start bus dialect)
+pub start-after : (numbers : Bool) (bus : Bus) (dialect : Dialect) → JustAfter bus (startTo numbers bus dialect)
 unfolding startTo startedTo fed allSmall
-start-after bus dialect = after-enable (reached bus dialect before (startUnit bus ∷ []) refl) (computed bus dialect .idle)
+start-after numbers bus dialect = after-enable (reached numbers bus dialect before (startUnit bus ∷ []) refl) (computed numbers bus dialect .idle)
 
--- the attempt, and what follows
+-- the attempts, and what follows
 abandoned-sendable : AllSendable (abandoned .pieces)
 abandoned-sendable = sendable 0x00060403 2 0xF 0xEE030201 (lit< tt) (lit< tt) (lit< tt) (lit< tt)
+
+twice-sendable : AllSendable (attemptsPieces twice)
+unfolding attemptsPieces AllSendable
+twice-sendable = (
+  abandoned-sendable .0,
+  (abandoned-sendable .1 .0, (abandoned-sendable .1 .1 .0, (((lit< tt, (lit< tt, (lit< tt, (lit< tt, (lit< tt, tt))))), tt), tt))),
+)
 
 repeat-sendable : (field : ℕ) → field < 2 ^ 32 → AllSendable (sent field 1 2 0xEE332211)
 repeat-sendable field h = sendable field 1 2 0xEE332211 h (lit< tt) (lit< tt) (lit< tt)
 
+-- no Request stands where the attempts begin
+begins-unasked : (numbers : Bool) (bus : Bus) (dialect : Dialect) (attempt : List ℕ) → NotAlone (startTo numbers bus dialect) attempt
+begins-unasked numbers bus dialect attempt stands = absurd (true≢false (sym stands ∙ computed numbers bus dialect .unasked))
+
 -- the attempt and its repeat write the same bits
-pub worked : (bus : Bus) (dialect : Dialect) → Worked bus dialect
-worked bus dialect =
-    let retried : Retried bus (start bus dialect) (attemptWords abandoned) (abandoned .pieces) repeated =
+pub worked : (numbers : Bool) (bus : Bus) (dialect : Dialect) → Worked numbers bus dialect
+worked numbers bus dialect =
+    let x = startTo numbers bus dialect in
+    let by = computed numbers bus dialect in
+    let retried : Retried bus x (attemptWords abandoned) (abandoned .pieces) repeated =
     record {
-      begins = beginnings bus .begins (start bus dialect) (start-after bus dialect);
-      not-alone = λ stands. absurd (true≢false (sym stands ∙ computed bus dialect .unasked));
+      begins = beginnings bus .begins x (start-after numbers bus dialect);
+      not-alone = begins-unasked numbers bus dialect (attemptWords abandoned);
       accepted = record {
         sendable = (abandoned-sendable, repeat-sendable 0x00060403 (lit< tt));
-        attempt-accepted = none-refused-by bus (start bus dialect) (allUnits bus (attemptWords abandoned)) (computed bus dialect .tried);
-        following-accepted = none-refused-by bus (after bus (start bus dialect) (attemptWords abandoned)) (allUnits bus (allWords repeated))
-            (computed bus dialect .after-tried);
+        attempt-accepted = none-refused-by bus x (allUnits bus (attemptWords abandoned)) (by .refused-tried);
+        following-accepted = none-refused-by bus (after bus x (attemptWords abandoned)) (allUnits bus (allWords repeated)) (by .after-tried);
       };
-      covered = λ p h. sym (computed bus dialect .same-bits p) ∙ h;
+      covered = λ p h. by .repeat-bits p ∙ sym (by .attempt-bits p) ∙ h;
     } in
+    let no-trace = retries-leave-no-trace bus x abandoned _ _ retried in
     record {
-      just-after = start-after bus dialect;
+      just-after = start-after numbers bus dialect;
       retried = retried;
-      no-trace = retries-leave-no-trace bus (start bus dialect) abandoned _ _ retried;
-      after-attempt = computed bus dialect .after-attempt;
-      after-repeat = computed bus dialect .after-repeat;
-      never-tried = computed bus dialect .never-tried;
-      counted = computed bus dialect .counted;
-      numbered = computed bus dialect .numbered;
+      no-trace = no-trace;
+      after-attempt = by .after-attempt;
+      after-repeat = by .after-repeat;
+      never-tried = by .never-tried;
+      counted = ap (λ (y : State). totals y .now) (no-trace .same-state) ∙ by .counted;
+      numbered = ap (λ (y : State). totals y .next) (no-trace .same-state) ∙ by .numbered;
+    }
+
+-- so do both attempts
+pub worked-twice : (bus : Bus) (dialect : Dialect) → WorkedTwice bus dialect
+worked-twice bus dialect =
+    let x = start bus dialect in
+    let by = computed true bus dialect in
+    let again = computed-twice bus dialect in
+    let retried : Retried bus x (attemptsWords twice) (attemptsPieces twice) repeated =
+    record {
+      begins = beginnings bus .begins x (start-after true bus dialect);
+      not-alone = begins-unasked true bus dialect (attemptsWords twice);
+      accepted = record {
+        sendable = (twice-sendable, repeat-sendable 0x00060403 (lit< tt));
+        attempt-accepted = none-refused-by bus x (allUnits bus (attemptsWords twice)) (again .refused-twice);
+        following-accepted = none-refused-by bus (after bus x (attemptsWords twice)) (allUnits bus (allWords repeated)) (again .after-twice);
+      };
+      covered = λ p h. by .repeat-bits p ∙ sym (no-more (within 4 3 p) (within 8 4 p) (within 32 24 p)) ∙ sym (again .twice-bits p) ∙ h;
+    } in
+    let no-trace = many-retries-leave-no-trace bus x twice _ _ retried in
+    record {
+      retried = retried;
+      no-trace = no-trace;
+      after-attempts = again .after-both;
+      after-repeat = ap (λ (y : State). y .memory) (no-trace .same-state) ∙ by .never-tried;
+      counted = ap (λ (y : State). totals y .now) (no-trace .same-state) ∙ by .counted;
+      numbered = ap (λ (y : State). totals y .next) (no-trace .same-state) ∙ by .numbered ∙ chosen _ _ _ refl;
     }
 
 -- bit 6 of the first byte
 pub one-bit-missed : OneBitMissed
 one-bit-missed =
     record {
-      begins = beginnings Bytes .begins (start Bytes Am17xx) (start-after Bytes Am17xx);
+      begins = beginnings Bytes .begins (start Bytes Am17xx) (start-after true Bytes Am17xx);
+      not-alone = begins-unasked true Bytes Am17xx (attemptWords abandoned);
       accepted = record {
         sendable = (abandoned-sendable, repeat-sendable 0x00050403 (lit< tt));
-        attempt-accepted = none-refused-by Bytes (start Bytes Am17xx) (allUnits Bytes (attemptWords abandoned)) (computed Bytes Am17xx .tried);
+        attempt-accepted = none-refused-by Bytes (start Bytes Am17xx) (allUnits Bytes (attemptWords abandoned)) (computed true Bytes Am17xx .refused-tried);
         following-accepted = none-refused-by Bytes (after Bytes (start Bytes Am17xx) (attemptWords abandoned)) (allUnits Bytes (allWords missing))
             (against .after-missing);
       };
@@ -291,7 +378,10 @@ unfolding AllSendable someWrites
 in-the-middle =
     record {
       awaits = against .awaits-middle;
+      not-rewound = eqb-false _ _ (against .register-middle);
       level = against .level-middle;
+      unnumbered = against .unnumbered-middle;
+      not-alone = λ stands. absurd (true≢false (sym stands ∙ against .settled-middle));
       accepted = record {
         sendable = (tt, repeat-sendable 0x00060403 (lit< tt));
         attempt-accepted = none-refused-by Bytes middle (allUnits Bytes (attemptWords nothing)) (against .middle-tried);
@@ -353,16 +443,18 @@ number-not-level =
 
 -- whether an opcode has been acknowledged
 pub nothing-follows : NothingFollows
-unfolding AllSendable allWords NoneRefused
+unfolding AllSendable allWords NoneRefused someWrites
 nothing-follows =
     record {
       just-after = started-after Bytes Am17xx;
       begins = beginnings Bytes .begins (started Bytes Am17xx) (started-after Bytes Am17xx);
+      not-alone = λ stands. absurd (true≢false (sym stands ∙ against .settled-started));
       accepted = record {
         sendable = (tt, tt);
         attempt-accepted = none-refused-by Bytes (started Bytes Am17xx) (allUnits Bytes (attemptWords nothing)) (against .started-tried);
         following-accepted = tt;
       };
+      covered = λ p h. absurd (false≢true h);
       trace = λ none.
           false≢true
           (sym (against .acknowledged-none) ∙ sym (ap (λ (x : State). x .session .core .begun) (none .same-state)) ∙ against .acknowledged-one);
@@ -371,4 +463,4 @@ nothing-follows =
 -- the length of memory
 pub memory-too-short : MemoryTooShort
 unfolding short allSmall
-memory-too-short = record { reached = reached Bytes Am17xx shorter [] refl; at-start = against .short-at-start; refused = against .short-refused }
+memory-too-short = record { reached = reached true Bytes Am17xx shorter [] refl; at-start = against .short-at-start; refused = against .short-refused }

@@ -26,7 +26,7 @@ use Rattle.machine.proofs.Laws.{data-count}
 use Rattle.machine.proofs.Memory.{if-over, loaded-over, fill-over, setting-over, take-bytes, words-bytes}
 use Rattle.law_retries.specs.claims.Pieces.{Piece, load, fill, setting, wordsOf, allWords, bytesLoaded, Sendable, AllSendable, judgedOf, effectOf}
 use Rattle.law_retries.specs.claims.Pieces.{anyWrites, Covers}
-use Rattle.machine.proofs.Granted.{GrantedAt}
+use Rattle.machine_loads.proofs.Granted.{GrantedAt}
 use Rattle.law_retries.proofs.Accepted.{piece-accepted}
 use Rattle.law_retries.proofs.Taking.{writeOf, Room, tallyOf, memoryOf, heardOf, awaiting, piece-goes}
 

@@ -51,7 +51,7 @@ use Rattle.machine_answers.specs.declared.Phase.{Phase}
 use Rattle.machine_answers.specs.declared.Phase.the-variants as phase
 use Rattle.machine_answers.specs.declared.Taken.{Taken}
 use Rattle.machine.proofs.Every.{every-word}
-use Rattle.machine.proofs.Granted.{GrantedAt, numbers, section-numbered, section-counts, load-not-refused, done-not-refused}
+use Rattle.machine_loads.proofs.Granted.{GrantedAt, numbers, section-numbered, section-counts, load-not-refused, done-not-refused}
 
 -- what stands after a word
 abbrev nowOf : WordOutcome → Standing

@@ -2,7 +2,6 @@ pub mod ByTheTable
 pub mod Cases
 pub mod Counting
 pub mod Every
-pub mod Granted
 pub mod Laws
 pub mod Memory
 pub mod Wrote

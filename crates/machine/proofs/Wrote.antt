@@ -18,8 +18,6 @@ use Rattle.opcodes.specs.rules.Answers.{codeOf}
 use Rattle.opcodes.specs.rules.Opcodes.{lookedUp}
 use Rattle.opcodes.specs.declared.Command.{Command}
 use Rattle.opcodes.specs.declared.Command.the-variants as command
-use Rattle.opcodes.specs.declared.Dialect.{Dialect}
-use Rattle.opcodes.specs.declared.Dialect.the-variants.{Am17xx, Dm648}
 use Rattle.opcodes.specs.declared.Event.{Event}
 use Rattle.opcodes.specs.declared.Found.{Found}
 use Rattle.opcodes.specs.declared.Found.the-variants.{Known, Retired, Unknown}
@@ -54,7 +52,8 @@ use Rattle.machine_answers.specs.declared.Phase.{Phase}
 use Rattle.machine_answers.specs.declared.Phase.the-variants as phase
 use Rattle.machine_answers.specs.declared.Reply.{Reply}
 use Rattle.machine_answers.specs.declared.Taken.{Taken}
-use Rattle.machine.proofs.Granted.{section-counts}
+use Rattle.machine_loads.proofs.Granted.{section-counts}
+use Rattle.machine_loads.proofs.Numbers.{counted-next}
 use Rattle.machine.proofs.Laws.{data-step}
 
 -- a range of none, and two that adjoin
@@ -131,10 +130,6 @@ refused-tells : (k : Core) (m : List ℕ) (q : Refusal) → WordTells k (refused
 refused-tells k m q = silent-tells (λ n. record { totals = n .totals; load = n .load })
 
 -- the number that is taken where a section, or a setting, is granted
-counted-next : (dialect : Dialect) (t : Totals) (size : ℕ) → counted dialect t size .next ≡ t .next
-counted-next Am17xx t size = refl
-counted-next Dm648 t size = refl
-
 taken-next : (t u : Totals) → u .next ≡ t .next → 0 < t .next → isSpent t ≡ false → t .next + 1 ≡ numbered u .next
 taken-next t u same some left = sym (ap following same ∙ numbers-on .one-more t (λ e. omega (arith, some, e)) left)
 

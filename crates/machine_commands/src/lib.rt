@@ -3,12 +3,13 @@ ghost use mathlib.Core.Path.{_≡_};
 ghost use mathlib.Core.List.{[]};
 ghost use Rattle.ledger.specs.rules.Totals.{standing};
 ghost use Rattle.machine_answers.specs.rules.Answers.{changed, await, withChecksum, said, quiet};
-ghost use Rattle.machine_commands.specs.rules.Performed.{noneKept, echoing, closeAddress, closeJudged, performed};
+ghost use Rattle.machine_commands.specs.rules.Performed.{noneKept, echoing, closeAddress, closeJudged, settingTotals, performed};
 ghost use Rattle.machine_answers.specs.rules.Replies.{oneWord};
 use commands::Judged;
 use ledger::Bytes;
 use ledger::Sections;
 use ledger::Standing;
+use ledger::Totals;
 use machine_answers::Core;
 use machine_answers::Kept;
 use machine_answers::Phase;
@@ -50,6 +51,15 @@ fn fill(core: Core, memory: &mut [u8], kept: Kept, pattern: u32) -> Taken
     )
 }
 
+// The totals after a setting: its number is taken, and nothing is counted.
+fn number_setting(core: Core) -> Totals
+    ensures { λ r. ⌜ r ≡ settingTotals core ⌝ }
+{
+    let tally = core.tally;
+    let totals = tally.totals;
+    totals.number()
+}
+
 // Boot Table.
 fn boot_table(core: Core, memory: &mut [u8], kept: Kept, delay: u32) -> Taken
     ensures { λ r. ⌜ r ≡ performed Command.BootTable core (now (memory .entry)) kept delay .answer ⌝ }
@@ -71,7 +81,7 @@ fn boot_table(core: Core, memory: &mut [u8], kept: Kept, delay: u32) -> Taken
     );
     let totals = tally.totals;
     machine_answers::tell_wrote(
-        machine_answers::finish(core, totals.number(), done),
+        machine_answers::finish(core, number_setting(core), done),
         commands::wrote_setting(judged, kept.first, totals.next),
     )
 }

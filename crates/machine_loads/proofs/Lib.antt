@@ -1,1 +1,3 @@
+pub mod Granted
 pub mod Laws
+pub mod Numbers

@@ -10,21 +10,20 @@ use Rattle.words.specs.rules.Choice.{pick}
 use Rattle.opcodes.specs.rules.Answers.{accepted}
 use Rattle.opcodes.specs.rules.Opcodes.{byWriting, lookedUp}
 use Rattle.opcodes.specs.declared.Command.{Command}
-use Rattle.opcodes.specs.declared.Command.the-variants as command
 use Rattle.opcodes.specs.declared.Found.{Found}
 use Rattle.opcodes.specs.declared.Found.the-variants.{Known, Retired, Unknown}
 use Rattle.opcodes.specs.declared.Mode.the-variants.{Flash}
 use Rattle.reading.specs.rules.Reading.{pastWords, argument}
 use Rattle.commands.specs.rules.Commands.{loadJudged, unitOf, fillJudged, shapeOf, settingJudged}
 use Rattle.law_effects.specs.claims.Effects.{loadEffect, fillEffect, settingEffect}
-use Rattle.law_effects.specs.claims.Wrote.{Tells}
 use Rattle.bit_stamps.specs.rules.Stamps.{entryAt}
-use Rattle.bit_history.specs.claims.History.{Numbered, lastNumber, numbersFit, stampedAll, chosenBit}
+use Rattle.bit_history.specs.claims.History.{Numbered, lastNumber, LeftBy, AsListed, numbersFit, stampedAll, chosenBit}
 use Rattle.flash.specs.rules.Step.{stepOf}
 use Rattle.flash_laws.specs.claims.Totals.{Lent, answerTo}
+use Rattle.flash_session.specs.rules.Sessions.{CallOutcome}
 use Rattle.flash_session.specs.declared.Session.{Session}
 use Rattle.flash_runs.specs.rules.Entries.{callEntries, runEntries}
-use Rattle.flash_runs.specs.rules.Run.{goesOn, enough}
+use Rattle.flash_runs.specs.rules.Run.{goesOn, enough, runOf}
 use Rattle.bit_history.specs.claims.Accepted.{judgedOne}
 
 -- an accepted command of so many argument words: a load, a fill or a setting
@@ -45,10 +44,13 @@ acceptedRow Unknown s image = []
 acceptedRow Retired s image = []
 acceptedRow (Known command words) s image = acceptedCommand command words s image
 
--- what a call adds: the command that it accepts
+-- what a call with this outcome adds: its command, where it is accepted
+abbrev pub added : CallOutcome → List Numbered → List Numbered
+added o commands = pick (accepted (o .answer .refusal)) commands []
+
+-- what a call adds, by what the table finds at the session's offset
 unfoldable pub callHistory : Session → List ℕ → List ℕ → List Numbered
-callHistory s m image =
-    pick (accepted (stepOf s m image .answer .refusal)) (acceptedRow (lookedUp (wordAt image (s .offset)) Flash (s .dialect)) s image) []
+callHistory s m image = added (stepOf s m image) (acceptedRow (lookedUp (wordAt image (s .offset)) Flash (s .dialect)) s image)
 
 -- the history of any calls, whatever is lent to each
 unfoldable pub history : Session → List Lent → List Numbered
@@ -60,6 +62,17 @@ unfoldable pub entriesAfter : List ℕ → List ℕ → Session → List Lent �
 entriesAfter places entries s [] = entries
 entriesAfter places entries s (lent ∷ rest) =
     entriesAfter places (callEntries places entries s (lent .memory) (lent .image)) (answerTo s lent .session) rest
+
+-- what is lent to calls with an image each: to the first this memory, to each other one the memory as the call before left it
+unfoldable pub lentInTurn : Session → List ℕ → List (List ℕ) → List Lent
+lentInTurn s m [] = []
+lentInTurn s m (image ∷ images) =
+    record { memory = m; image = image } ∷ lentInTurn (stepOf s m image .answer .session) (stepOf s m image .memory) images
+
+-- the memory after them
+unfoldable pub memoryAfter : Session → List ℕ → List (List ℕ) → List ℕ
+memoryAfter s m [] = m
+memoryAfter s m (image ∷ images) = memoryAfter (stepOf s m image .answer .session) (stepOf s m image .memory) images
 
 -- what is lent to the calls of a run: one unchanged image, and the memory as the call before left it; one call, and at most n more while the session goes on
 unfoldable pub lentOn : ℕ → Session → List ℕ → List ℕ → List Lent
@@ -82,5 +95,9 @@ pub record CallsTell : Type 0 where
       → entryAt (entriesAfter places (replicate (64 * length places) 0) s calls) j k ≡ lastNumber (history s calls) (chosenBit places j k)
   -- a run's entries are those of its calls
   pub run : (places entries : List ℕ) (s : Session) (m image : List ℕ) → runEntries places entries s m image ≡ entriesAfter places entries s (callsOf s m image)
-  -- a call gives memory exactly the bits that it tells
-  pub memory : (s : Session) (m image : List ℕ) → Tells (stepOf s m image .answer .wrote) m (stepOf s m image .memory)
+  -- a call gives memory exactly the bits that it tells, those of the command that it accepts
+  pub call : (s : Session) (m image : List ℕ) → AsListed (callHistory s m image) (stepOf s m image .answer .wrote) m (stepOf s m image .memory)
+  -- so after any calls, whatever memory was lent to the first, each bit is what the last command that writes it gives, and what it was where none does
+  pub values : (s : Session) (m : List ℕ) (images : List (List ℕ)) → LeftBy (history s (lentInTurn s m images)) m (memoryAfter s m images)
+  -- and after a run
+  pub run-values : (s : Session) (m image : List ℕ) → LeftBy (history s (callsOf s m image)) m (runOf s m image .memory)

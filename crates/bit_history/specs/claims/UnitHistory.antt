@@ -12,15 +12,13 @@ use Rattle.windows.specs.declared.Window.{Window}
 use Rattle.opcodes.specs.rules.Answers.{accepted}
 use Rattle.opcodes.specs.rules.Opcodes.{byWriting}
 use Rattle.opcodes.specs.declared.Command.{Command}
-use Rattle.opcodes.specs.declared.Command.the-variants as command
 use Rattle.opcodes.specs.declared.Dialect.{Dialect}
 use Rattle.commands.specs.rules.Commands.{unitOf, fillJudged, shapeOf, settingJudged}
 use Rattle.law_effects.specs.claims.Effects.{loadEffect, fillEffect, settingEffect}
-use Rattle.law_effects.specs.claims.Wrote.{Tells}
 use Rattle.bit_stamps.specs.rules.Stamps.{entryAt}
-use Rattle.bit_history.specs.claims.History.{Numbered, lastNumber, numbersFit, stampedAll, chosenBit}
+use Rattle.bit_history.specs.claims.History.{Numbered, lastNumber, LeftBy, AsListed, numbersFit, stampedAll, chosenBit}
 use Rattle.sent.specs.rules.Bus.{unitsInWord, pushed}
-use Rattle.sent.specs.rules.Feeding.{State, next}
+use Rattle.sent.specs.rules.Feeding.{State, next, fed}
 use Rattle.sent.specs.rules.Line.{isStart, unitStep}
 use Rattle.machine_loads.specs.rules.Loads.{dataBytes}
 use Rattle.machine.specs.rules.Machine.{wordStep}
@@ -90,5 +88,8 @@ pub record UnitsTell (bus : Bus) : Type 0 where
   pub told : (dialect : Dialect) (count : ℕ) (windows : List Window) (m units places : List ℕ) (j k : ℕ) → j < length places → k < 32
       → entryAt (entriesAfter bus places (replicate (64 * length places) 0) (atOpening bus dialect count windows m) units) j k
       ≡ lastNumber (history bus (atOpening bus dialect count windows m) units) (chosenBit places j k)
-  -- a unit gives memory exactly the bits that it tells
-  pub memory : (s : Session) → Led bus s → (m : List ℕ) (u : ℕ) → Tells (unitStep bus s m u .answer .wrote) m (unitStep bus s m u .memory)
+  -- a unit gives memory exactly the bits that it tells, those of the command, or the load's data, whose word it ends
+  pub unit : (s : Session) → Led bus s → (m : List ℕ) (u : ℕ)
+      → AsListed (unitHistory bus (record { session = s; memory = m }) u) (unitStep bus s m u .answer .wrote) m (unitStep bus s m u .memory)
+  -- so after any units, from any session and memory, each bit is what the last command that writes it gives, and what it was where none does
+  pub values : (x : State) (units : List ℕ) → LeftBy (history bus x units) (x .memory) (fed bus x units .memory)

@@ -18,7 +18,8 @@ use Rattle.opcodes.specs.declared.Found.the-variants.{Known, Retired, Unknown}
 use Rattle.opcodes.specs.declared.Mode.the-variants.{Flash}
 use Rattle.opcodes.specs.declared.Refusal.{Refusal}
 use Rattle.opcodes.specs.declared.Refusal.the-variants.{None}
-use Rattle.ledger.specs.rules.Totals.{standing, wouldPass, differs, isSpent, inFlash}
+use Rattle.ledger.specs.claims.Booked.{Room}
+use Rattle.ledger.specs.rules.Totals.{standing, differs, inFlash}
 use Rattle.ledger.specs.declared.Happening.{Happening}
 use Rattle.ledger.specs.declared.Happening.the-variants as happened
 use Rattle.ledger.specs.declared.Standing.{Standing}
@@ -54,15 +55,6 @@ happening JumpAndClose size = happened.Other
 happening Ping size = happened.Other
 happening SequentialRead size = happened.Other
 
--- a section takes no total past the largest, and what is numbered finds a number
-abbrev pub Fits : Session → Happening → Type 0
-Fits s (happened.Section size) = (wouldPass (s .dialect) (s .totals) size ≡ false) × (isSpent (s .totals) ≡ false)
-Fits s happened.Setting = isSpent (s .totals) ≡ false
-Fits s happened.Enable = Unit {0}
-Fits s happened.Passed = Unit {0}
-Fits s happened.Retried = Unit {0}
-Fits s happened.Other = Unit {0}
-
 -- the opcode and the argument words of the command at the session's offset that an image has
 unfoldable pub met : Session → List ℕ → ℕ
 met s image =
@@ -88,7 +80,7 @@ pub record Forward (s : Session) (image : List ℕ) (a : Called) : Type 0 where
   pub fetched : a .session .fetched ≡ countedOn (s .fetched) words
   pub retries : a .session .retries ≡ s .retries
   pub totals : a .session .totals ≡ inFlash (s .dialect) (s .totals) (happening command (argument image (s .offset) 1))
-  pub fits : Fits s (happening command (argument image (s .offset) 1))
+  pub fits : Room (s .dialect) (s .totals) (happening command (argument image (s .offset) 1))
   pub ended : a .session .ended ≡ eqb (kindOf (a .event)) 3
   pub entering : kindOf (a .event) ≡ 3 → command ≡ JumpAndClose
   pub naming : kindOf (a .event) ≡ 3 → differs (s .dialect) (s .totals) (named s image) ≡ false

@@ -1,10 +1,12 @@
--- A worked instance on either line: two fields of one word and a load, tried, asked about and abandoned, then sent again with other data; and
--- counterexamples on the line of bytes.
+-- A worked instance on either line, in either dialect, with numbers and without: two fields of one word and a load, tried, asked about and abandoned, then
+-- sent again with other data, after one attempt and after two; and counterexamples on the line of bytes.
 use Prim.Native.Nat.{ℕ}
 use mathlib.Core.Bool.{Bool, true, false}
 use mathlib.Core.List.{List, [], _∷_, _++_}
+use mathlib.Core.Logic.{_≢_}
 use mathlib.Core.Path.{_≡_}
 use lib.ListN.{replicate}
+use Rattle.words.specs.rules.Choice.{pick}
 use Rattle.windows.specs.rules.Map.{zeroWindow}
 use Rattle.windows.specs.declared.Window.{Window}
 use Rattle.opcodes.specs.declared.Dialect.{Dialect}
@@ -21,7 +23,7 @@ use Rattle.sent.specs.declared.Bus.{Bus}
 use Rattle.sent.specs.declared.Bus.the-variants.{Bytes}
 use Rattle.law_retries.specs.claims.Pieces.{Piece, load, setting, enableOpcode, requestOpcode, wordsOf, allWords, Covers}
 use Rattle.law_retries.specs.claims.Retries.{after, Awaits, Begins, sinceOpening, Reached, AtStart, JustAfter, Attempt, attemptWords, NoTrace, Accepted}
-use Rattle.law_retries.specs.claims.Retries.{Retried}
+use Rattle.law_retries.specs.claims.Retries.{attemptsWords, attemptsPieces, NotAlone, Retried}
 
 -- a window of eight bytes, and what they hold
 abbrev pub windows : List Window
@@ -61,18 +63,40 @@ abbrev pub oneLoad : Dialect → Standing
 oneLoad Am17xx = zero
 oneLoad Dm648 = standing 1 3
 
+-- the number of the command after three, where commands are numbered
+abbrev pub fourth : Bool → ℕ
+fourth numbers = pick numbers 4 0
+
+-- what memory holds after the attempt, and what it is meant to hold
+abbrev pub tried : List ℕ
+tried = 0x2F ∷ 0x0F ∷ 0 ∷ 0 ∷ 1 ∷ 2 ∷ 3 ∷ 0xAA ∷ []
+
+abbrev pub meant : List ℕ
+meant = 0x1F ∷ 0x02 ∷ 0 ∷ 0 ∷ 0x11 ∷ 0x22 ∷ 0x33 ∷ 0xAA ∷ []
+
 -- the premises are met, from the opening on; the attempt changes memory; after the repeat nothing is left of it, one load is counted, and the next command is
 -- the fourth
-pub record Worked (bus : Bus) (dialect : Dialect) : Type 0 where
-  pub just-after : JustAfter bus (start bus dialect)
-  pub retried : Retried bus (start bus dialect) (attemptWords abandoned) (abandoned .pieces) repeated
-  pub no-trace : NoTrace bus (start bus dialect) (attemptWords abandoned) (allWords repeated)
-  pub after-attempt : after bus (start bus dialect) (attemptWords abandoned) .memory ≡ 0x2F ∷ 0x0F ∷ 0 ∷ 0 ∷ 1 ∷ 2 ∷ 3 ∷ 0xAA ∷ []
-  pub after-repeat : after bus (start bus dialect) (attemptWords abandoned ++ allWords repeated) .memory
-      ≡ 0x1F ∷ 0x02 ∷ 0 ∷ 0 ∷ 0x11 ∷ 0x22 ∷ 0x33 ∷ 0xAA ∷ []
-  pub never-tried : after bus (start bus dialect) (allWords repeated) .memory ≡ 0x1F ∷ 0x02 ∷ 0 ∷ 0 ∷ 0x11 ∷ 0x22 ∷ 0x33 ∷ 0xAA ∷ []
-  pub counted : totals (after bus (start bus dialect) (attemptWords abandoned ++ allWords repeated)) .now ≡ oneLoad dialect
-  pub numbered : totals (after bus (start bus dialect) (attemptWords abandoned ++ allWords repeated)) .next ≡ 4
+pub record Worked (numbers : Bool) (bus : Bus) (dialect : Dialect) : Type 0 where
+  pub just-after : JustAfter bus (startTo numbers bus dialect)
+  pub retried : Retried bus (startTo numbers bus dialect) (attemptWords abandoned) (abandoned .pieces) repeated
+  pub no-trace : NoTrace bus (startTo numbers bus dialect) (attemptWords abandoned) (allWords repeated)
+  pub after-attempt : after bus (startTo numbers bus dialect) (attemptWords abandoned) .memory ≡ tried
+  pub after-repeat : after bus (startTo numbers bus dialect) (attemptWords abandoned ++ allWords repeated) .memory ≡ meant
+  pub never-tried : after bus (startTo numbers bus dialect) (allWords repeated) .memory ≡ meant
+  pub counted : totals (after bus (startTo numbers bus dialect) (attemptWords abandoned ++ allWords repeated)) .now ≡ oneLoad dialect
+  pub numbered : totals (after bus (startTo numbers bus dialect) (attemptWords abandoned ++ allWords repeated)) .next ≡ fourth numbers
+
+-- two attempts in a row: that one, and a second that sets the first field alone and is given up unasked
+abbrev pub twice : List Attempt
+twice = abandoned ∷ record { pieces = setting 0x00060403 0x80000000 4 0 ∷ []; asked = false } ∷ []
+
+pub record WorkedTwice (bus : Bus) (dialect : Dialect) : Type 0 where
+  pub retried : Retried bus (start bus dialect) (attemptsWords twice) (attemptsPieces twice) repeated
+  pub no-trace : NoTrace bus (start bus dialect) (attemptsWords twice) (allWords repeated)
+  pub after-attempts : after bus (start bus dialect) (attemptsWords twice) .memory ≡ 0x4F ∷ 0x0F ∷ 0 ∷ 0 ∷ 1 ∷ 2 ∷ 3 ∷ 0xAA ∷ []
+  pub after-repeat : after bus (start bus dialect) (attemptsWords twice ++ allWords repeated) .memory ≡ meant
+  pub counted : totals (after bus (start bus dialect) (attemptsWords twice ++ allWords repeated)) .now ≡ oneLoad dialect
+  pub numbered : totals (after bus (start bus dialect) (attemptsWords twice ++ allWords repeated)) .next ≡ 4
 
 -- what follows misses bit 6 of the attempt's first field, and all else is met: the bit stays
 abbrev pub missing : List Piece
@@ -80,6 +104,7 @@ missing = sent 0x00050403 1 2 0xEE332211
 
 pub record OneBitMissed : Type 0 where
   pub begins : Begins (start Bytes Am17xx)
+  pub not-alone : NotAlone (start Bytes Am17xx) (attemptWords abandoned)
   pub accepted : Accepted Bytes (start Bytes Am17xx) (attemptWords abandoned) (abandoned .pieces) missing
   pub trace : NoTrace Bytes (start Bytes Am17xx) (attemptWords abandoned) (allWords missing) → ⊥
 
@@ -93,7 +118,10 @@ nothing = record { pieces = []; asked = false }
 
 pub record InTheMiddle : Type 0 where
   pub awaits : Awaits middle
+  pub not-rewound : checksum middle ≢ 0
   pub level : Level (totals middle)
+  pub unnumbered : totals middle .next ≡ 0
+  pub not-alone : NotAlone middle (attemptWords nothing)
   pub accepted : Accepted Bytes middle (attemptWords nothing) [] repeated
   pub covered : Covers windows [] repeated
   pub trace : NoTrace Bytes middle (attemptWords nothing) (allWords repeated) → ⊥
@@ -139,7 +167,9 @@ pub record NumberNotLevel : Type 0 where
 pub record NothingFollows : Type 0 where
   pub just-after : JustAfter Bytes (started Bytes Am17xx)
   pub begins : Begins (started Bytes Am17xx)
+  pub not-alone : NotAlone (started Bytes Am17xx) (attemptWords nothing)
   pub accepted : Accepted Bytes (started Bytes Am17xx) (attemptWords nothing) [] []
+  pub covered : Covers windows [] []
   pub trace : NoTrace Bytes (started Bytes Am17xx) (attemptWords nothing) [] → ⊥
 
 -- a byte of memory is missing, and all else is met: the start unit is refused with 2, not answered

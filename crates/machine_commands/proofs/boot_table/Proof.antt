@@ -12,8 +12,8 @@ judge-number-requires c κs = search needs
 boot-table-requires : tie.Need-boot-table-requires
 boot-table-requires c κs = search needs
 
-number-requires : tie.Need-number-requires
-number-requires c κs = search needs
+number-setting-requires : tie.Need-number-setting-requires
+number-setting-requires c κs = search needs
 
 finish-requires : tie.Need-finish-requires
 finish-requires c κs = search needs
@@ -32,7 +32,7 @@ returns c =
     let judged = rw (c .before .before .before .before .before .before .before .before .before .before .judge-setting .ensures) at
     (c .before .before .before .before .before .before .before .before .before .judge-number .ensures) in
     let done = rw judged at (c .before .before .before .before .before .before .before .boot-table .ensures) in (
-      rw (c .before .wrote-setting .ensures, c .before .before .finish .ensures, done .0, c .before .before .before .number .ensures, judged) at
+      rw (c .before .wrote-setting .ensures, c .before .before .finish .ensures, done .0, c .before .before .before .number-setting .ensures, judged) at
           (c .tell-wrote .ensures),
       done .1,
     )
@@ -44,7 +44,7 @@ boot-table-spec =
     judge-setting-requires
     judge-number-requires
     boot-table-requires
-    number-requires
+    number-setting-requires
     finish-requires
     wrote-setting-requires
     tell-wrote-requires

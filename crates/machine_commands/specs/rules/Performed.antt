@@ -11,6 +11,7 @@ use Rattle.opcodes.specs.declared.Dialect.the-variants.{Am17xx, Dm648}
 use Rattle.opcodes.specs.declared.Refusal.the-variants as refusal
 use Rattle.ledger.specs.rules.Totals.{standing, differs, numbered}
 use Rattle.ledger.specs.declared.Standing.{Standing}
+use Rattle.ledger.specs.declared.Totals.{Totals}
 use Rattle.commands.specs.rules.Commands.{barred, fillJudged, fillDone, fillMemory, settingJudged, settingDone, settingMemory, entryJudged, closeDone}
 use Rattle.commands.specs.rules.Wrote.{bytesWrote, settingWrote}
 use Rattle.commands.specs.declared.Judged.{Judged}
@@ -31,12 +32,16 @@ fillTaken k m address size kind pattern =
     (after k (countedOn k size) (fillDone judged (k .on) (k .tally .checksum) address size kind pattern))
     leaving fillMemory judged m size kind pattern
 
--- Boot Table: it is numbered, and not counted
+-- a setting is numbered, and not counted
+abbrev pub settingTotals : Core → Totals
+settingTotals k = numbered (k .tally .totals)
+
+-- Boot Table
 abbrev pub settingTaken : Core → List ℕ → ℕ → ℕ → ℕ → ℕ → WordOutcome
 settingTaken k m word address value delay =
     let judged : Judged = outOfNumbers k (settingJudged (k .windows) word address value) in
     writing (settingWrote judged word (k .tally .totals .next))
-    (after k (numbered (k .tally .totals)) (settingDone judged (k .tally .checksum) delay))
+    (after k (settingTotals k) (settingDone judged (k .tally .checksum) delay))
     leaving settingMemory judged m word value
 
 -- Enable, Disable and Start-Over: the checksum switched, or as it was, and a value for it

@@ -1,0 +1,5 @@
+pub mod Feeding
+pub mod Instance
+pub mod Rooms
+pub mod Traceless
+pub mod Units

@@ -1,0 +1,4 @@
+pub mod Calls
+pub mod Rooms
+pub mod Traceless
+pub mod Worked
