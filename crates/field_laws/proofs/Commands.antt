@@ -1,12 +1,14 @@
 -- The command that is made for a name: its words name the line's own bits, and setting them is what the loader does with such a command.
-use Prim.Native.Nat.{ℕ, suc, _+_, _-_, _≤_}
+use Prim.Native.Nat.{ℕ, zero, suc, _+_, _-_, _^_, _≤_, _<_}
 use mathlib.Core.Bool.{Bool, true, false, not, _&&_}
 use mathlib.Core.List.{List}
 use mathlib.Core.Path.{_≡_, sym, ap, ap₂, _∙_}
-use native.Mathlib.Nat.{mod-eq-of-lt}
+use native.Mathlib.Nat.{mod-eq-of-lt, lt-of-lt-of-le}
 use native.Mathlib.Omega.{arith}
-use borrow.Author.Tests.{not-false}
-use lib.Dec.{leb, ltb, leb·suc-suc}
+use borrow.Author.Tests.{not-false, leb-false}
+use lib.Dec.{leb, ltb, lit<, leb·suc-suc}
+use lib.ListN.{getD}
+use lib.Pow.{pow-mono}
 use Rattle.words.specs.rules.Bits.{within}
 use Rattle.words.specs.rules.Bytes.{byte}
 use Rattle.words.proofs.Choice.{of-choice}
@@ -18,7 +20,7 @@ use Rattle.field_register.specs.declared.FoundLine.{FoundLine}
 use Rattle.field_register.specs.declared.FieldRefusal.{FieldRefusal}
 use Rattle.field_register.specs.declared.FieldRefusal.the-variants.{None, NoField, TooWide}
 use Rattle.field_register.specs.declared.Setting.{Setting}
-use Rattle.field_laws.proofs.Kept.{SoundLine}
+use Rattle.field_laws.specs.claims.WellFormed.{InRanges}
 
 -- what a command that was made says of the line
 pub record OfLine (f : FoundLine) (value : ℕ) (words : List ℕ) : Type 0 where
@@ -47,7 +49,7 @@ same-end s t k h =
     ap (ltb k) e ∙ leb·suc-suc k t
 
 -- the type word of a sound line names its field
-module _ (l : FieldLine) (sound : SoundLine l) where
+module _ (l : FieldLine) (sound : InRanges l) where
   start-is : startByte l ≡ l .start
   start-is = mod-eq-of-lt (omega (arith, sound))
 
@@ -62,7 +64,7 @@ module _ (l : FieldLine) (sound : SoundLine l) where
   unfolding typeWord byte
   type-stop = rw (start-is, stop-is) (omega (arith, sound))
 
-  type-kind : byte (typeWord l) 0 ≡ 3
+  pub type-kind : byte (typeWord l) 0 ≡ 3
   unfolding typeWord byte
   type-kind = omega (arith, sound)
 
@@ -87,3 +89,23 @@ module _ (l : FieldLine) (sound : SoundLine l) where
   -- and as many as the width that the value must fit
   pub type-width : fieldWidth (typeWord l) ≡ widthOf (startByte l) (stopByte l)
   type-width = ap₂ widthOf (type-start ∙ sym start-is) (type-stop ∙ sym stop-is)
+
+  -- each of its five words has 32 bits
+  type-small : typeWord l < 2 ^ 32
+  unfolding typeWord
+  type-small = omega arith
+
+  value-fits : (value : ℕ) → tooWide (widthOf (startByte l) (stopByte l)) value ≡ false → value < 2 ^ 32
+  unfolding tooWide
+  value-fits value e =
+      let wide : widthOf (startByte l) (stopByte l) ≤ 32 = rw (start-is, stop-is) (omega (arith, sound)) in
+      lt-of-lt-of-le (leb-false _ _ e) (pow-mono wide)
+
+  pub words-small : (value : ℕ) → tooWide (widthOf (startByte l) (stopByte l)) value ≡ false → (i : ℕ) → getD (wordsFor l value) i 0 < 2 ^ 32
+  unfolding wordsFor
+  words-small value e zero = lit< tt
+  words-small value e (suc zero) = type-small
+  words-small value e (suc (suc zero)) = sound .small
+  words-small value e (suc (suc (suc zero))) = value-fits value e
+  words-small value e (suc (suc (suc (suc zero)))) = lit< tt
+  words-small value e (suc (suc (suc (suc (suc i))))) = lit< tt

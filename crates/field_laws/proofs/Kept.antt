@@ -1,79 +1,30 @@
--- What the lines of a register that was read keep: each is sound, and no two clash. A line is only added where it was read and clashes with no earlier one.
-use Prim.Native.Nat.{ℕ, zero, suc, _+_, _%_, _≤_, _<_}
-use Prim.Native.Char.{code}
-use mathlib.Core.Bool.{true, false, not, _&&_, true≢false}
+-- What the lines of a register that was read keep: each is in its ranges, and no two clash. A line is only added where it was read and clashes with no
+-- earlier one.
+use Prim.Native.Nat.{ℕ, zero, suc, _+_, _≤_, _<_}
+use mathlib.Core.Bool.{false, not}
 use mathlib.Core.List.{List, [], _∷_, _++_}
-use mathlib.Core.Path.{_≡_, refl, sym, ap, _∙_}
+use mathlib.Core.Path.{_≡_, refl, ap, _∙_}
 use native.Mathlib.Omega.{arith}
-use borrow.Author.Tests.{leb-true, leb-false, eqb-true, not-false}
-use lib.Dec.{eqb, leb}
+use borrow.Author.Tests.{leb-true, leb-false, not-false}
+use lib.Dec.{leb}
 use lib.ListN.{length, length-append, List·getD-append}
 use lib.Seq.{take-append-seam, getD-append-seam}
-use Rattle.words.proofs.Choice.{by-test, both, of-choice, neither}
+use Rattle.words.proofs.Choice.{by-test, of-choice, neither}
 use Rattle.field_lines.specs.rules.Clashes.{clash}
-use Rattle.field_lines.specs.rules.Lines.{Pairs, pairsAt, allGood, lineOf, inOrder, noLine, parsedIf, lineAt}
-use Rattle.field_lines.specs.rules.Pairs.{valueAt, numberPair, decimalIn}
-use Rattle.digits.specs.rules.Numbers.{numberOf}
-use Rattle.field_lines.specs.rules.Text.{bytesOf, between, part, isDecimal}
+use Rattle.field_lines.specs.rules.Lines.{noLine, lineAt}
 use Rattle.field_lines.specs.declared.FieldLine.{FieldLine}
-use Rattle.digits.specs.declared.Number.{Number}
-use Rattle.field_lines.specs.declared.Parsed.{Parsed}
-use Rattle.field_lines.specs.declared.Value.{Value}
-use Rattle.field_lines.specs.declared.Value.the-variants.{From, Missing}
 use Rattle.field_register.specs.rules.Reading.{kept, linesIn, readAs, refusedAt, clashes, readFrom, readingOf}
 use Rattle.field_register.specs.declared.Reading.{Reading}
 use Rattle.field_register.specs.declared.FieldRefusal.{FieldRefusal}
 use Rattle.field_register.specs.declared.FieldRefusal.the-variants.{None, Malformed, Clash}
 use Rattle.field_laws.specs.claims.Meanings.{nth, linesOf}
+use Rattle.field_laws.specs.claims.WellFormed.{InRanges}
+use Rattle.field_laws.proofs.LinesRead.{line-written}
 
--- a decimal pair that is right is in its range
-in-range : (text : List ℕ) (least most : ℕ) (v : Value) → decimalIn text least most v .good ≡ true → decimalIn text least most v .value ≤ most
-in-range text least most Missing e = absurd (true≢false (sym e))
-in-range text least most (From from to) e =
-    of-choice (λ (n : Number). numberPair n to .good ≡ true → numberPair n to .value ≤ most)
-    (isDecimal (part text from to) && between least most (numberOf 10 (part text from to)))
-    (λ held good. leb-true _ _ (both (leb least (numberOf 10 (part text from to))) _ (both (isDecimal (part text from to)) _ held .1) .1))
-    (λ failed good. absurd (true≢false (sym good)))
-    e
-
--- a line that may set its field
-pub record SoundLine (l : FieldLine) : Type 0 where
-  pub aligned : l .word % 4 ≡ 0
-  pub order : l .start ≤ l .stop
-  pub last : l .stop ≤ 31
-
-module _ (text : List ℕ) (at : ℕ) where
-  abbrev pairs : Pairs
-  pairs = pairsAt text at
-
-  sound-if : (allGood pairs && inOrder (lineOf pairs)) ≡ true → SoundLine (lineOf pairs)
-  unfolding inOrder
-  sound-if held =
-      let whole = both (allGood pairs) _ held in
-      let ordered = both (eqb (pairs .word .value % 4) 0 && leb (pairs .start .value) (pairs .stop .value)) _ (whole .1) in
-      let front = both (eqb (pairs .word .value % 4) 0) _ (ordered .0) in
-      let five = both (pairs .field .name .good && pairs .word .good && pairs .start .good && pairs .stop .good && pairs .since .good) _ (whole .0) in
-      let four = both (pairs .field .name .good && pairs .word .good && pairs .start .good && pairs .stop .good) _ (five .0) in
-      let stop = both (pairs .field .name .good && pairs .word .good && pairs .start .good) _ (four .0) in
-      record {
-        aligned = eqb-true _ _ (front .0);
-        order = leb-true _ _ (front .1);
-        last = in-range text 0 31
-            (valueAt text (pairs .start .next) (bytesOf "stop=") (code " ")) (stop .1);
-      }
-
-  -- a line that was read is sound
-  line-sound : lineAt text at .good ≡ true → SoundLine (lineAt text at .line)
-  unfolding lineAt parsedIf
-  line-sound =
-      of-choice (λ (p : Parsed). p .good ≡ true → SoundLine (p .line)) (allGood pairs && inOrder (lineOf pairs))
-      (λ held good. sound-if held)
-      (λ failed good. absurd (true≢false (sym good)))
-
--- lines that are sound and apart
+-- lines that are in their ranges and apart
 pub record GoodLines (ls : List FieldLine) : Type 0 where
   pub apart : (i j : ℕ) → i < j → j < length ls → clash (nth ls i) (nth ls j) ≡ false
-  pub sound : (i : ℕ) → i < length ls → SoundLine (nth ls i)
+  pub sound : (i : ℕ) → i < length ls → InRanges (nth ls i)
 
 none-good : GoodLines []
 none-good = record { apart = λ i j h k. absurd (omega arith); sound = λ i h. absurd (omega arith) }
@@ -86,7 +37,7 @@ clear (m ∷ ls) l e zero h = neither (clash m l) _ e .0
 clear (m ∷ ls) l e (suc i) h = clear ls l (neither (clash m l) _ e .1) i (omega arith)
 
 -- one more line
-module _ (ls : List FieldLine) (l : FieldLine) (good : GoodLines ls) (free : clashes ls l ≡ false) (sound : SoundLine l) where
+module _ (ls : List FieldLine) (l : FieldLine) (good : GoodLines ls) (free : clashes ls l ≡ false) (sound : InRanges l) where
   before : (i : ℕ) → i < length ls → nth (ls ++ l ∷ []) i ≡ nth ls i
   before i h = List·getD-append ls (l ∷ []) noLine i h
 
@@ -107,7 +58,7 @@ module _ (ls : List FieldLine) (l : FieldLine) (good : GoodLines ls) (free : cla
       let e : j ≡ length ls = last j k (λ b. omega arith) in
       rw (at-last j e, before i (omega arith)) (clear ls l free i (omega arith)))
 
-  sound-more : (i : ℕ) → i < length (ls ++ l ∷ []) → SoundLine (nth (ls ++ l ∷ []) i)
+  sound-more : (i : ℕ) → i < length (ls ++ l ∷ []) → InRanges (nth (ls ++ l ∷ []) i)
   sound-more i h =
       by-test (leb (suc i) (length ls))
       (λ inside. rw (before i (leb-true _ _ inside)) (good .sound i (leb-true _ _ inside)))
@@ -143,7 +94,7 @@ read-good (suc allowed) ls text at good =
     of-choice Kept (clashes ls (lineAt text at .line)) (λ clashing. kept-refused Clash (length ls + 1))
     (λ free.
     read-good allowed (ls ++ lineAt text at .line ∷ []) text (lineAt text at .next)
-    (more-good ls (lineAt text at .line) good free (line-sound text at (not-false _ right))))))
+    (more-good ls (lineAt text at .line) good free (line-written text at (not-false _ right) .well-formed .in-ranges)))))
 
 pub lines-good : (text : List ℕ) → GoodLines (linesOf text)
 lines-good text = read-good 200 [] text 0 none-good

@@ -1,7 +1,14 @@
+pub mod Addresses
 pub mod Answers
 pub mod Clashing
 pub mod Commands
+pub mod Decimals
 pub mod Kept
+pub mod Later
+pub mod LinesRead
 pub mod Meanings
+pub mod PairsRead
 pub mod Story
 pub mod Stretches
+pub mod TextsRead
+pub mod ValuesRead

@@ -8,6 +8,7 @@ use borrow.Author.Tests.{leb-true, le-leb}
 use lib.Dec.{leb}
 use lib.ListN.{length, getD}
 use Rattle.words.specs.rules.Bits.{within}
+use Rattle.words.specs.rules.Bytes.{byte}
 use Rattle.words.specs.rules.Choice.{pick}
 use Rattle.words.proofs.Choice.{chosen, passed, by-test, both}
 use Rattle.windows.specs.rules.Window.{sumOf, placeOf}
@@ -22,7 +23,7 @@ use Rattle.opcodes.specs.declared.Dialect.the-variants.{Am17xx, Dm648}
 use Rattle.opcodes.specs.declared.Mode.{Mode}
 use Rattle.opcodes.specs.declared.Mode.the-variants.{Sent, Flash}
 use Rattle.opcodes.specs.declared.Refusal.the-variants as refusal
-use Rattle.commands.specs.rules.Commands.{startOf, tooWide, placed, rangeJudged, settingJudged, settingMemory}
+use Rattle.commands.specs.rules.Commands.{startOf, stopOf, tooWide, placed, rangeJudged, settingJudged, settingMemory}
 use Rattle.commands.specs.declared.Judged.the-variants.{Granted}
 use Rattle.commands.proofs.Judging.{units-range, shape-fits}
 use Rattle.law_effects.specs.claims.Fields.{fieldWidth, Holds}
@@ -34,10 +35,11 @@ use Rattle.field_register.specs.rules.Commands.{typeWord, wordsFor}
 use Rattle.field_register.specs.rules.Questions.{theBit, theName, isAbout, answers, found, noneFound, asked, fieldOf, lineOfName}
 use Rattle.field_register.specs.declared.FoundLine.{FoundLine}
 use Rattle.field_laws.specs.claims.Meanings.{registerOf, linesOf, kindIn, addressIn, writesBit, Made, QuestionsAgree, IsBootTable, DoesWhatItSays}
+use Rattle.field_laws.specs.claims.WellFormed.{InRanges}
 use Rattle.field_laws.proofs.Answers.{Where, where-found, the-answer-is}
 use Rattle.field_laws.proofs.Clashing.{has-bit, is-bit}
-use Rattle.field_laws.proofs.Commands.{OfLine, of-line, type-width, names-field, names-bits}
-use Rattle.field_laws.proofs.Kept.{SoundLine, lines-good}
+use Rattle.field_laws.proofs.Commands.{OfLine, of-line, type-start, type-stop, type-kind, type-width, names-field, names-bits, words-small}
+use Rattle.field_laws.proofs.Kept.{lines-good}
 
 -- a question about a bit asks for the bit
 about-bit : (l : FieldLine) (word bit release : ℕ) → hasBit l word bit ≡ true → inForce l release ≡ true → answers (theBit word bit) release l ≡ true
@@ -77,8 +79,8 @@ module _ (text name : List ℕ) (release value : ℕ) (words : List ℕ) (m : Ma
       subst (λ (g : FoundLine). Where (theName (nameOf name .name)) release (linesOf text) (g .line)) (sym named)
       (where-found (theName (nameOf name .name)) release (linesOf text) (sym (ap (λ (g : FoundLine). g .found) named) ∙ of .is-found))
 
-  sound : SoundLine l
-  sound = subst SoundLine (stands .is) (lines-good text .sound (stands .number) (stands .below))
+  sound : InRanges l
+  sound = subst InRanges (stands .is) (lines-good text .sound (stands .number) (stands .below))
 
   kind : kindIn words ≡ typeWord l
   unfolding wordsFor
@@ -110,11 +112,19 @@ module _ (text name : List ℕ) (release value : ℕ) (words : List ℕ) (m : Ma
       let h = has-bit l word bit (of-bit l word bit release answered) in
       never (sym (h .word-is) ∙ sym address, bits bit ∙ ap₂ _&&_ (le-leb _ _ (h .from)) (le-leb _ _ (h .to)))
 
-  boot : IsBootTable words value
+  boot : IsBootTable l value words
   unfolding pick wordsFor lookedUp rows rowServes rowFound
   boot =
       record {
-        opcode = opcode-is;
+        five = sym (ap length (of .words-are));
+        small = λ i. rw (← of .words-are) (words-small l sound value (of .fits) i);
+        opcode = first;
+        in-table = found;
+        names-field = rw kind (names-field l sound);
+        kind = ap (λ (w : ℕ). byte w 0) kind ∙ type-kind l sound;
+        start = ap startOf kind ∙ type-start l sound;
+        stop = ap stopOf kind ∙ type-stop l sound;
+        address = address;
         data-word = sym (ap (λ (ws : List ℕ). getD ws 3 0) (of .words-are));
         no-delay = sym (ap (λ (ws : List ℕ). getD ws 4 0) (of .words-are));
       }
@@ -122,32 +132,32 @@ module _ (text name : List ℕ) (release value : ℕ) (words : List ℕ) (m : Ma
       first : getD words 0 0 ≡ 0x58535907
       first = sym (ap (λ (ws : List ℕ). getD ws 0 0) (of .words-are))
 
-      opcode-is : (mode : Mode) (dialect : Dialect) → lookedUp (getD words 0 0) mode dialect ≡ Known BootTable 4
-      opcode-is Sent Am17xx = rw first
-      opcode-is Sent Dm648 = rw first
-      opcode-is Flash Am17xx = rw first
-      opcode-is Flash Dm648 = rw first
+      found : (mode : Mode) (dialect : Dialect) → lookedUp (getD words 0 0) mode dialect ≡ Known BootTable 4
+      found Sent Am17xx = rw first
+      found Sent Dm648 = rw first
+      found Flash Am17xx = rw first
+      found Flash Dm648 = rw first
 
-  module _ (windows : List Window) (memory : List ℕ) (place : ℕ) (lent : length memory ≡ sumOf windows)
-      (over : placeOf windows Set (addressIn words) 4 ≡ At place) where
-    fits : tooWide (fieldWidth (typeWord l)) value ≡ false
-    fits = rw (type-width l sound) (of .fits)
+  fits : tooWide (fieldWidth (typeWord l)) value ≡ false
+  fits = rw (type-width l sound) (of .fits)
 
-    judged : settingJudged windows (typeWord l) (l .word) value ≡ Granted place
-    unfolding rangeJudged
-    judged =
-        shape-fits windows (l .word) value (named-shape windows (typeWord l) (l .word) value (names-field l sound)) fits
-        ∙ units-range windows Set _ (l .word) 4 (sound .aligned) refl
-        ∙ ap (placed refusal.Range) (ap (λ (a : ℕ). placeOf windows Set a 4) (sym address) ∙ over)
+  by-place : (windows : List Window)
+      → settingJudged windows (kindIn words) (addressIn words) value ≡ placed refusal.Range (placeOf windows Set (addressIn words) 4)
+  unfolding rangeJudged
+  by-place windows =
+      rw (kind, address)
+      (shape-fits windows (l .word) value (named-shape windows (typeWord l) (l .word) value (names-field l sound)) fits
+      ∙ units-range windows Set _ (l .word) 4 (sound .aligned) refl)
 
-    sets : (settingJudged windows (kindIn words) (addressIn words) value ≡ Granted place)
-        × Holds (kindIn words) place value memory (settingMemory (Granted place) memory (kindIn words) value)
-    sets =
-        rw (kind, address)
-        (judged, field-laws .accepted windows memory lent (typeWord l) (l .word) value place (names-field l sound) judged)
+  sets : (windows : List Window) (memory : List ℕ) (place : ℕ) → length memory ≡ sumOf windows → placeOf windows Set (addressIn words) 4 ≡ At place
+      → (settingJudged windows (kindIn words) (addressIn words) value ≡ Granted place)
+      × Holds (kindIn words) place value memory (settingMemory (Granted place) memory (kindIn words) value)
+  sets windows memory place lent over =
+      let judged = by-place windows ∙ ap (placed refusal.Range) over in
+      (judged, field-laws .accepted windows memory lent (kindIn words) (addressIn words) value place (boot .names-field) judged)
 
 pub questions-agree : QuestionsAgree
 questions-agree = record { written = written-is; not-written = other-is-not }
 
 pub does-what-it-says : DoesWhatItSays
-does-what-it-says = record { boot-table = boot; accepted = sets }
+does-what-it-says = record { boot-table = boot; by-window = by-place; accepted = sets }

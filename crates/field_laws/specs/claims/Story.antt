@@ -8,7 +8,8 @@ use Rattle.field_register.specs.rules.Commands.{commandFor, notMade}
 use Rattle.field_register.specs.rules.Questions.{fieldOf}
 use Rattle.field_register.specs.rules.Reading.{readingOf}
 use Rattle.field_register.specs.declared.FieldRefusal.the-variants.{None, TooWide}
-use Rattle.field_laws.specs.claims.Meanings.{registerOf, Made}
+use Rattle.field_laws.specs.claims.Meanings.{registerOf, linesOf, LaterThanAny, Made}
+use Rattle.field_laws.specs.claims.WellFormed.{TextOf}
 
 abbrev pub story : List ℕ
 story =
@@ -19,6 +20,9 @@ story =
 
 pub record TheStory : Type 0 where
   pub good : readingOf story .refusal ≡ None
+  -- its lines are well-formed, and release 4 is later than any that they name
+  pub well-formed : TextOf (linesOf story) story
+  pub later : LaterThanAny (linesOf story) 4
   -- bit 6 in release 2, in release 3, and in one later than any named
   pub urgent : fieldOf (registerOf story) 0x80000010 6 2 .line .name ≡ padded (bytesOf "priority")
   pub longer : fieldOf (registerOf story) 0x80000010 6 3 .line .name ≡ padded (bytesOf "dwell")

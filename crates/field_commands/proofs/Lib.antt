@@ -1,0 +1,5 @@
+pub mod Calls
+pub mod CarriedOut
+pub mod Settings
+pub mod Story
+pub mod Words

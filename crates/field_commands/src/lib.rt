@@ -1,0 +1,1 @@
+// Facts about the rules of the lower crates: there is no code here.
