@@ -2,7 +2,7 @@
 -- by unit.
 use Prim.Native.Nat.{ℕ, _+_, _-_, _*_}
 use mathlib.Core.Bool.{Bool, true, false, not, _&&_}
-use mathlib.Core.List.{List, [], _∷_}
+use mathlib.Core.List.{List, [], _∷_, _++_, append-assoc, append-nil}
 use mathlib.Core.Path.{_≡_, refl, sym, ap, _∙_}
 use native.Mathlib.Omega.{arith}
 use borrow.Author.Tests.{eqb-true}
@@ -29,8 +29,9 @@ use Rattle.sent.specs.declared.Bus.{Bus}
 use Rattle.sent.specs.declared.Opened.{Opened}
 use Rattle.machine_answers.specs.declared.Reply.{Reply}
 use Rattle.sent.specs.declared.Session.{Session}
+use Rattle.sent_laws.specs.claims.Reached.{openedTo, Reached, opened, stepped, fedReached}
 use Rattle.bit_watch.specs.rules.Watched.{unitEntries, entriesAfter}
-use Rattle.bit_history.specs.claims.UnitHistory.{wordHistory, endsWord, unitHistory, history, atOpening, Led, opened, numbering, stepped, UnitsTell}
+use Rattle.bit_history.specs.claims.UnitHistory.{wordHistory, endsWord, unitHistory, history, historyOf, entriesOf, UnitsTell}
 use Rattle.bit_history.proofs.Agreeing.{Agrees, Told, Given, Inside, agrees-told, left-given, listed, fit-both}
 use Rattle.bit_history.proofs.Words.{Sound, word-shown}
 
@@ -117,13 +118,6 @@ module _ (bus : Bus) where
       history-laws .left-on (unitHistory bus x u) (history bus y us) (x .memory) (y .memory) (fed bus y us .memory)
       (unit-left bus (x .session) (x .memory) u) (values-law y us)
 
-  fit-law : (x : State) (units : List ℕ) → Sound (x .session .core) → numbersFit (history bus x units) ≡ true
-  unfolding history numbersFit
-  fit-law x [] h = refl
-  fit-law x (u ∷ us) h =
-      let shown = unit-shown bus (x .session) (x .memory) u in
-      fit-both (unitHistory bus x u) (history bus (next bus x u) us) (shown .fits h) (fit-law (next bus x u) us (shown .sound h))
-
   -- every opening gives a sound session
   abbrev Opens : Opened → Type 0
   Opens o = Sound (o .session .core)
@@ -136,28 +130,61 @@ module _ (bus : Bus) where
   unfolding numberingFrom
   numbering-sound o h = of-choice Opens _ (λ e. ((omega arith, omega arith), h .1)) (λ e. h)
 
-  led-sound : (s : Session) → Led bus s → Sound (s .core)
-  led-sound t (opened dialect count windows) = opened-sound dialect count windows
-  led-sound t (numbering dialect count windows) = numbering-sound (openedBy bus dialect count windows) (opened-sound dialect count windows)
-  led-sound t (stepped {s} m u led) = unit-shown bus s m u .sound (led-sound s led)
+  opening-sound : (numbers : Bool) (dialect : Dialect) (count : ℕ) (windows : List Window) → Opens (openedTo numbers bus dialect count windows)
+  unfolding pick
+  opening-sound true dialect count windows = numbering-sound (openedBy bus dialect count windows) (opened-sound dialect count windows)
+  opening-sound false dialect count windows = opened-sound dialect count windows
 
-  opening-fits : (dialect : Dialect) (count : ℕ) (windows : List Window) (m units : List ℕ)
-      → numbersFit (history bus (atOpening bus dialect count windows m) units) ≡ true
-  opening-fits dialect count windows m units =
-      fit-law (atOpening bus dialect count windows m) units (numbering-sound (openedBy bus dialect count windows) (opened-sound dialect count windows))
+  reached-sound : (s : Session) → Reached bus s → Sound (s .core)
+  reached-sound t (opened numbers dialect count windows) = opening-sound numbers dialect count windows
+  reached-sound t (stepped {s} m u before) = unit-shown bus s m u .sound (reached-sound s before)
+
+  -- since an opening
+  since-law : (places : List ℕ) (s : Session) (reached : Reached bus s)
+      → entriesOf places reached ≡ stampedAll (replicate (64 * length places) 0) places (historyOf reached)
+  unfolding entriesOf historyOf stampedAll
+  since-law places t (opened numbers dialect count windows) = refl
+  since-law places t (stepped {s} m u before) =
+      let zeros : List ℕ = replicate (64 * length places) 0 in
+      unit-agrees bus s m u (entriesOf places before) places
+      ∙ ap (λ (es : List ℕ). stampedAll es places (unitHistory bus (record { session = s; memory = m }) u)) (since-law places s before)
+      ∙ sym (history-laws .stamped-on zeros places (historyOf before) (unitHistory bus (record { session = s; memory = m }) u))
+
+  fit-law : (s : Session) (reached : Reached bus s) → numbersFit (historyOf reached) ≡ true
+  unfolding historyOf numbersFit
+  fit-law t (opened numbers dialect count windows) = refl
+  fit-law t (stepped {s} m u before) =
+      fit-both (historyOf before) (unitHistory bus (record { session = s; memory = m }) u) (fit-law s before)
+      (unit-shown bus s m u .fits (reached-sound s before))
+
+  -- units that are lent one memory
+  more-law : (units : List ℕ) (x : State) (reached : Reached bus (x .session))
+      → historyOf (fedReached bus x units reached) ≡ historyOf reached ++ history bus x units
+  unfolding fedReached historyOf history
+  more-law [] x reached = sym (append-nil (historyOf reached))
+  more-law (u ∷ us) x reached =
+      more-law us (next bus x u) (stepped (x .memory) u reached) ∙ append-assoc (historyOf reached) (unitHistory bus x u) (history bus (next bus x u) us)
+
+  more-entries-law : (units places : List ℕ) (x : State) (reached : Reached bus (x .session))
+      → entriesOf places (fedReached bus x units reached) ≡ entriesAfter bus places (entriesOf places reached) x units
+  unfolding fedReached entriesOf entriesAfter
+  more-entries-law [] places x reached = refl
+  more-entries-law (u ∷ us) places x reached = more-entries-law us places (next bus x u) (stepped (x .memory) u reached)
 
   pub units-tell : UnitsTell bus
   units-tell =
       record {
         stamps = stamps-law;
-        fit = opening-fits;
-        told = λ dialect count windows m units places j k h l.
-            let x : State = atOpening bus dialect count windows m in
-            ap (λ (es : List ℕ). entryAt es j k) (stamps-law places (replicate (64 * length places) 0) x units)
-            ∙ history-laws .told places (history bus x units) (opening-fits dialect count windows m units) j k h l;
-        unit = λ s led m u.
+        stamps-since = since-law;
+        fit = fit-law;
+        told = λ s reached places j k h l.
+            ap (λ (es : List ℕ). entryAt es j k) (since-law places s reached)
+            ∙ history-laws .told places (historyOf reached) (fit-law s reached) j k h l;
+        more = λ x reached units. more-law units x reached;
+        more-entries = λ places x reached units. more-entries-law units places x reached;
+        unit = λ s reached m u.
             let shown = unit-shown bus s m u in
             listed (listing bus s m u) (unitStep bus s m u .answer .wrote) m (unitStep bus s m u .memory) (shown .told) (shown .given)
-            (shown .inside (led-sound s led));
+            (shown .inside (reached-sound s reached));
         values = values-law;
       }

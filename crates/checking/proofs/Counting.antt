@@ -17,7 +17,7 @@ use Rattle.flash_session.specs.rules.Sessions.{CallOutcome}
 use Rattle.flash_session.specs.declared.Opened.{Opened}
 use Rattle.flash_runs.specs.claims.Ceiling.{ceiling}
 use Rattle.flash_runs.specs.rules.Run.{ranFrom}
-use Rattle.flash_runs.proofs.Ceiling.{opened-within, ceilings}
+use Rattle.flash_runs.proofs.Ceiling.{opened-within, ran-within}
 use Rattle.checking.specs.claims.Counting.{WithinCeiling}
 use Rattle.checking.specs.rules.Counting.{mostOf, countedOf}
 use Rattle.checking.specs.rules.Report.{windows, lastAnswer}
@@ -28,7 +28,7 @@ answer-within : (image : List ℕ) (limit : ℕ)
 unfolding lastAnswer ranFrom
 answer-within image limit =
     of-choice (λ (o : CallOutcome). o .answer .session .fetched ≤ ceiling limit (length image / 4)) _
-    (λ e. ceilings .run Am17xx 1 windows image limit _) (λ e. opened-within Am17xx 1 windows image limit)
+    (λ e. ran-within Am17xx 1 windows image limit _) (λ e. opened-within Am17xx 1 windows image limit)
 
 -- what is refused at the opening before its first word is looked at has fetched none
 refused-none : (image : List ℕ) (q : Refusal) → eqb (codeOf q) 0 ≡ false → lastAnswer image (refusedBy q 0) .session .fetched ≡ 0

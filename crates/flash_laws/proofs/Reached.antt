@@ -1,6 +1,7 @@
 -- No word is cut for a session that an opening leads to: an opening gives an offset that is a multiple of 4, by the law of a call every call does, and an
 -- image has whole words.
 use Prim.Native.Nat.{ℕ, _%_}
+use mathlib.Core.Bool.{Bool, true, false}
 use mathlib.Core.List.{List}
 use mathlib.Core.Path.{_≡_, refl}
 use native.Mathlib.Omega.{arith}
@@ -11,11 +12,13 @@ use Rattle.words.proofs.Choice.{both, of-choice}
 use Rattle.windows.specs.rules.Window.{sumOf}
 use Rattle.windows.specs.declared.Window.{Window}
 use Rattle.opcodes.specs.declared.Dialect.{Dialect}
+use Rattle.ledger.specs.rules.Totals.{fromOne}
 use Rattle.reading.specs.rules.Reading.{present, readAt}
 use Rattle.commands.specs.rules.Commands.{multiple}
 use Rattle.flash_commands.specs.claims.Ways.{Way, forward, back, kept, Call}
-use Rattle.flash_session.specs.rules.Opening.{goodLength, openedBy}
-use Rattle.flash_laws.specs.claims.Reached.{Reached, opened, called, Looks, at-opcode, at-argument, at-data, NoWordCut, ReachedIsNeeded}
+use Rattle.flash_session.specs.rules.Opening.{goodLength, openedBy, numberingFrom}
+use Rattle.flash_session.specs.rules.Sessions.{withTotals}
+use Rattle.flash_laws.specs.claims.Reached.{openedTo, Reached, opened, called, Looks, at-opcode, at-argument, at-data, NoWordCut, ReachedIsNeeded}
 use Rattle.flash.specs.rules.Step.{stepOf}
 use Rattle.flash_session.specs.declared.Called.{Called}
 use Rattle.flash_session.specs.declared.Opened.{Opened}
@@ -32,15 +35,30 @@ call-aligned {s} {image} {a} aligned call = go (call .way)
     go (back b) = b .aligned
     go (kept k) = omega arith
 
-opened-aligned : (dialect : Dialect) (count : ℕ) (windows : List Window) (image : List ℕ) (limit : ℕ)
-    → openedBy dialect count windows image limit .session .offset % 4 ≡ 0
+-- an opening that numbers has other totals than one that does not, and all else alike
+module _ (P : Opened → Type 0)
+    (other : (o : Opened) → P o → P (record { refusal = o .refusal; session = withTotals (o .session) (fromOne (o .session .totals)) })) where
+  numbering-as : (o : Opened) → P o → P (numberingFrom o)
+  unfolding numberingFrom
+  numbering-as o holds = of-choice P _ (λ e. other o holds) (λ e. holds)
+
+  pub opened-as : (numbers : Bool) (dialect : Dialect) (count : ℕ) (windows : List Window) (image : List ℕ) (limit : ℕ)
+      → P (openedBy dialect count windows image limit) → P (openedTo numbers dialect count windows image limit)
+  unfolding pick
+  opened-as true dialect count windows image limit holds = numbering-as (openedBy dialect count windows image limit) holds
+  opened-as false dialect count windows image limit holds = holds
+
+abbrev Aligned : Opened → Type 0
+Aligned o = o .session .offset % 4 ≡ 0
+
+opened-aligned : (dialect : Dialect) (count : ℕ) (windows : List Window) (image : List ℕ) (limit : ℕ) → Aligned (openedBy dialect count windows image limit)
 unfolding openedBy
 opened-aligned dialect count windows image limit =
-    let Aligned : Opened → Type 0 = λ o. o .session .offset % 4 ≡ 0 in
     of-choice Aligned _ (λ e. refl) (λ e. of-choice Aligned _ (λ e. refl) (λ e. of-choice Aligned _ (λ e. refl) (λ e. refl)))
 
 pub reached-aligned : {s : Session} → Reached s → s .offset % 4 ≡ 0
-reached-aligned (opened dialect count windows image limit) = opened-aligned dialect count windows image limit
+reached-aligned (opened numbers dialect count windows image limit) =
+    opened-as Aligned (λ o holds. holds) numbers dialect count windows image limit (opened-aligned dialect count windows image limit)
 reached-aligned (called {s} lent reached) =
     omega (arith, call-aligned (reached-aligned reached) (every-call s (lent .memory) (lent .image)))
 

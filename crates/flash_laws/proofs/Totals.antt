@@ -3,7 +3,7 @@
 use Prim.Native.Nat.{ℕ, _+_, _≤_}
 use mathlib.Core.Bool.{Bool, true, false}
 use mathlib.Core.List.{List, [], _∷_}
-use mathlib.Core.Path.{_≡_, refl, sym, ap, ap₂, subst, _∙_}
+use mathlib.Core.Path.{_≡_, refl, sym, ap, subst, _∙_}
 use native.Mathlib.Omega.{arith}
 use lib.ListN.{length}
 use borrow.Author.Tests.{eq-eqb, ne-eqb}
@@ -16,9 +16,9 @@ use Rattle.opcodes.specs.declared.Command.the-variants as command
 use Rattle.opcodes.specs.declared.Dialect.{Dialect}
 use Rattle.opcodes.specs.declared.Dialect.the-variants.{Am17xx, Dm648}
 use Rattle.opcodes.specs.declared.Found.{Found}
-use Rattle.ledger.specs.claims.Agreement.{plus}
+use Rattle.ledger.specs.claims.Agreement.{plus, Zero}
 use Rattle.ledger.specs.claims.Booked.{Room}
-use Rattle.ledger.specs.rules.Totals.{atOpening, wouldPass, differs, following, numberedAs, inFlash}
+use Rattle.ledger.specs.rules.Totals.{nothing, atOpening, wouldPass, differs, numberedAs, inFlash}
 use Rattle.ledger.specs.declared.Happening.{Happening}
 use Rattle.ledger.specs.declared.Happening.the-variants as happened
 use Rattle.ledger.specs.declared.Standing.{Standing}
@@ -36,16 +36,17 @@ use Rattle.commands.specs.declared.Sought.the-variants as sought
 use Rattle.commands.specs.declared.Wrote.{Wrote}
 use Rattle.flash_commands.specs.claims.Ways.{named, happening, Way, forward, back, kept, Call}
 use Rattle.flash_session.specs.rules.Opening.{openedBy}
-use Rattle.flash_laws.specs.claims.Reached.{Reached, opened, called}
+use Rattle.flash_laws.specs.claims.Reached.{openedTo, Reached, opened, called}
 use Rattle.flash_session.specs.rules.Sessions.{CallOutcome, goTo, withTotals, fetching, acceptedAs, after}
 use Rattle.flash_commands.specs.rules.Commands.{overflowing, soughtAs, requested, entered}
 use Rattle.flash.specs.rules.Step.{loadAt, loadJudgedAs, performed, followed, stepOf}
-use Rattle.flash_laws.specs.claims.Totals.{Lent, answerTo, afterCalls, sizesIn, sizesFound, acceptedIn, sizesAccepted}
+use Rattle.flash_laws.specs.claims.Totals.{Lent, answerTo, sizesIn, sizesFound, acceptedIn, sizesAccepted}
 use Rattle.flash_laws.specs.claims.Totals.{CountsAccepted, EntersOnTotals, untold, Am17xxHasNone}
 use Rattle.flash_session.specs.declared.Called.{Called}
 use Rattle.flash_session.specs.declared.Opened.{Opened}
 use Rattle.flash_session.specs.declared.Session.{Session}
 use Rattle.flash_laws.proofs.Calls.{every-call}
+use Rattle.flash_laws.proofs.Reached.{opened-as}
 
 -- what a command that goes forward leaves standing
 module _ (s : Session) (size : ℕ) (dialect : s .dialect ≡ Dm648) where
@@ -103,24 +104,39 @@ module _ (s : Session) (lent : Lent) where
           ap (λ (t : Totals). t .now) (k .totals) ∙ plus-none (s .totals .now)
           ∙ ap (plus (s .totals .now)) (sym (passed _ _ _ (ne-eqb _ _ (k .refused))))
 
-calls-never-fewer : (s : Session) (calls : List Lent) → s .retries ≤ afterCalls s calls .retries
-unfolding afterCalls
-calls-never-fewer s [] = omega arith
-calls-never-fewer s (lent ∷ rest) = omega (arith, never-fewer s lent, calls-never-fewer (answerTo s lent .session) rest)
+-- the totals of an opening are 0, and no Request stands
+abbrev Nothing : Totals → Type 0
+Nothing t = Zero t × (t .asked ≡ false)
 
-calls-stand : (s : Session) (calls : List Lent) → s .dialect ≡ Dm648 → afterCalls s calls .retries ≡ s .retries
-    → afterCalls s calls .totals .now ≡ plus (s .totals .now) (sizesAccepted s calls)
-unfolding afterCalls sizesAccepted
-calls-stand s [] dialect same = plus-none (s .totals .now)
-calls-stand s (lent ∷ rest) dialect same =
-    let t = answerTo s lent .session in
-    let kept-so-far : t .retries ≡ s .retries = omega (arith, never-fewer s lent, calls-never-fewer t rest) in
-    calls-stand t rest (every-call s (lent .memory) (lent .image) .same-dialect ∙ dialect) (same ∙ sym kept-so-far)
-    ∙ ap (λ (now : Standing). plus now (sizesAccepted t rest)) (call-stands s lent dialect kept-so-far)
-    ∙ plus-more (s .totals .now) (acceptedIn s lent) (sizesAccepted t rest)
+opened-zero : (dialect : Dialect) (count : ℕ) (windows : List Window) (image : List ℕ) (limit : ℕ)
+    → Nothing (openedBy dialect count windows image limit .session .totals)
+unfolding openedBy
+opened-zero dialect count windows image limit =
+    let Opens : Opened → Type 0 = λ o. Nothing (o .session .totals) in
+    of-choice Opens _ (λ e. ((refl, refl), refl))
+    (λ e. of-choice Opens _ (λ e. ((refl, refl), refl)) (λ e. of-choice Opens _ (λ e. ((refl, refl), refl)) (λ e. ((refl, refl), refl))))
+
+opening-zero : (numbers : Bool) (dialect : Dialect) (count : ℕ) (windows : List Window) (image : List ℕ) (limit : ℕ)
+    → Nothing (openedTo numbers dialect count windows image limit .session .totals)
+opening-zero numbers dialect count windows image limit =
+    opened-as (λ (o : Opened). Nothing (o .session .totals)) (λ o zero. zero) numbers dialect count windows image limit
+    (opened-zero dialect count windows image limit)
+
+-- any calls without one
+reached-stands : {s : Session} (reached : Reached s) → s .dialect ≡ Dm648 → s .retries ≡ 0 → s .totals .now ≡ plus nothing (sizesAccepted reached)
+unfolding sizesAccepted
+reached-stands (opened numbers dialect count windows image limit) dm none =
+    opening-zero numbers dialect count windows image limit .0 .0 ∙ plus-none nothing
+reached-stands (called {s} given before) dm none =
+    let lent : Lent = record { memory = given .memory; image = given .image } in
+    let dialect : s .dialect ≡ Dm648 = sym (every-call s (lent .memory) (lent .image) .same-dialect) ∙ dm in
+    let none-before : s .retries ≡ 0 = omega (arith, never-fewer s lent, none) in
+    call-stands s lent dialect (none ∙ sym none-before)
+    ∙ ap (λ (now : Standing). plus now (acceptedIn s lent)) (reached-stands before dialect none-before)
+    ∙ plus-more nothing (sizesAccepted before) (acceptedIn s lent)
 
 pub counts-accepted : CountsAccepted
-counts-accepted windows bytes limit calls same = calls-stand _ calls refl same
+counts-accepted s reached dialect none = reached-stands reached dialect none
 
 -- an entry goes forward, and 17 did not refuse it
 pub enters-on-totals : EntersOnTotals
@@ -132,36 +148,28 @@ enters-on-totals s m image dialect enters = go (every-call s m image .way)
     go (back b) = absurd (omega (arith, enters, ap kindOf (b .no-event)))
     go (kept k) = absurd (omega (arith, enters, ap kindOf (k .no-event)))
 
--- what happens in AM17xx leaves totals of 0 as they are
-zero-stays : (h : Happening) → inFlash Am17xx atOpening h ≡ atOpening
-unfolding pick following
-zero-stays (happened.Section size) = refl
-zero-stays happened.Setting = refl
-zero-stays happened.Enable = refl
-zero-stays happened.Passed = refl
-zero-stays happened.Retried = refl
-zero-stays happened.Other = refl
+-- what happens in AM17xx leaves totals of 0
+zero-stays : (h : Happening) (t : Totals) → Nothing t → Nothing (inFlash Am17xx t h)
+zero-stays (happened.Section size) t zero = zero
+zero-stays happened.Setting t zero = zero
+zero-stays happened.Enable t zero = ((zero .0 .0, zero .0 .0), refl)
+zero-stays happened.Passed t zero = ((zero .0 .0, zero .0 .0), refl)
+zero-stays happened.Retried t zero = ((zero .0 .1, zero .0 .1), refl)
+zero-stays happened.Other t zero = zero
 
-opened-zero : (dialect : Dialect) (count : ℕ) (windows : List Window) (image : List ℕ) (limit : ℕ)
-    → openedBy dialect count windows image limit .session .totals ≡ atOpening
-unfolding openedBy
-opened-zero dialect count windows image limit =
-    let Zero : Opened → Type 0 = λ o. o .session .totals ≡ atOpening in
-    of-choice Zero _ (λ e. refl) (λ e. of-choice Zero _ (λ e. refl) (λ e. of-choice Zero _ (λ e. refl) (λ e. refl)))
-
-call-zero : {s : Session} {image : List ℕ} {a : Called} → s .dialect ≡ Am17xx → s .totals ≡ atOpening → Way s image a → a .session .totals ≡ atOpening
+call-zero : {s : Session} {image : List ℕ} {a : Called} → s .dialect ≡ Am17xx → Nothing (s .totals) → Way s image a → Nothing (a .session .totals)
 call-zero {s} {image} {a} dialect zero way = go way
   where
-    stays : (h : Happening) → inFlash (s .dialect) (s .totals) h ≡ atOpening
-    stays h = ap₂ (λ (d : Dialect) (t : Totals). inFlash d t h) dialect zero ∙ zero-stays h
+    stays : (h : Happening) → Nothing (inFlash (s .dialect) (s .totals) h)
+    stays h = subst (λ (d : Dialect). Nothing (inFlash d (s .totals) h)) (sym dialect) (zero-stays h (s .totals) zero)
 
-    go : Way s image a → a .session .totals ≡ atOpening
-    go (forward f) = f .totals ∙ stays (happening (f .command) (argument image (s .offset) 1))
-    go (back b) = b .totals ∙ stays happened.Retried
-    go (kept k) = k .totals ∙ zero
+    go : Way s image a → Nothing (a .session .totals)
+    go (forward f) = subst Nothing (sym (f .totals)) (stays (happening (f .command) (argument image (s .offset) 1)))
+    go (back b) = subst Nothing (sym (b .totals)) (stays happened.Retried)
+    go (kept k) = subst Nothing (sym (k .totals)) zero
 
-reached-zero : {s : Session} → Reached s → s .dialect ≡ Am17xx → s .totals ≡ atOpening
-reached-zero (opened dialect count windows image limit) e = opened-zero dialect count windows image limit
+reached-zero : {s : Session} → Reached s → s .dialect ≡ Am17xx → Nothing (s .totals)
+reached-zero (opened numbers dialect count windows image limit) e = opening-zero numbers dialect count windows image limit
 reached-zero (called {s} lent reached) e =
     let call = every-call s (lent .memory) (lent .image) in
     let before : s .dialect ≡ Am17xx = sym (call .same-dialect) ∙ e in

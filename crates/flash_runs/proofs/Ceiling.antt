@@ -1,4 +1,4 @@
--- The ceiling: the sum of what is prescribed is below it, and 32 bits count no more than the sum. A run of an image is some calls after its opening.
+-- The ceiling: the sum of what is prescribed is below it, and 32 bits count no more than the sum. A run of an image is some calls.
 use Prim.Native.Nat.{ℕ, zero, suc, _+_, _*_, _/_, _≤_}
 use mathlib.Core.Bool.{false, true≢false}
 use mathlib.Core.List.{List}
@@ -17,7 +17,7 @@ use Rattle.opcodes.specs.rules.Opcodes.{rows, rowServes, foundIn, lookedUp}
 use Rattle.opcodes.specs.declared.Dialect.{Dialect}
 use Rattle.reading.specs.rules.Reading.{present, argument, readAt}
 use Rattle.commands.specs.rules.Commands.{multiple, entryJudged, closeDone}
-use Rattle.flash_session.specs.rules.Opening.{goodLength, openedBy}
+use Rattle.flash_session.specs.rules.Opening.{goodLength, openedBy, numberingFrom}
 use Rattle.flash_laws.specs.claims.Reached.{Reached, opened, called}
 use Rattle.flash_session.specs.rules.Sessions.{CallOutcome, countedOn, after}
 use Rattle.flash.specs.rules.Step.{stepOf}
@@ -45,12 +45,6 @@ standing-always {s} {n} {limit} {words} (shut over one low) = omega (arith, low,
 always : {s : Session} (reached : Reached s) → s .fetched ≤ ceiling (limitOf reached) (wordsOf reached)
 always reached = omega (arith, few reached, standing-always (reached-standing reached))
 
--- an opening, refused or not, is within it
-pub opened-within : (dialect : Dialect) (count : ℕ) (windows : List Window) (image : List ℕ) (limit : ℕ)
-    → openedBy dialect count windows image limit .session .fetched ≤ ceiling limit (length image / 4)
-unfolding limitOf wordsOf
-opened-within dialect count windows image limit = always (opened dialect count windows image limit)
-
 -- a session that was opened with a limit on an image of so many words
 record From (limit words : ℕ) (s : Session) : Type 0 where
   reached : Reached s
@@ -74,26 +68,34 @@ module _ {limit words : ℕ} (image : List ℕ) where
   carried (suc n) o before =
       of-choice (λ (x : CallOutcome). From limit words (x .answer .session)) _ (λ more. carried n _ (next (o .memory) before)) (λ none. before)
 
-ran : (dialect : Dialect) (count : ℕ) (windows : List Window) (image : List ℕ) (limit : ℕ) (m : List ℕ)
-    → From limit (length image / 4) (runOf (openedBy dialect count windows image limit .session) m image .answer .session)
-unfolding runOf limitOf wordsOf
-ran dialect count windows image limit m =
-    let s = openedBy dialect count windows image limit .session in
-    carried image (enough s) (stepOf s m image)
-    (next image m (record { reached = opened dialect count windows image limit; same-limit = refl; same-words = refl }))
+ran : {s : Session} (reached : Reached s) (m image : List ℕ) → From (limitOf reached) (wordsOf reached) (runOf s m image .answer .session)
+unfolding runOf
+ran {s} reached m image =
+    carried image (enough s) (stepOf s m image) (next image m (record { reached = reached; same-limit = refl; same-words = refl }))
 
 pub ceilings : Ceiling
 ceilings =
     record {
       running = λ reached e. omega (arith, few reached, standing-running (reached-standing reached) e);
       always = always;
-      run = λ dialect count windows image limit m.
-          let from = ran dialect count windows image limit m in
+      run = λ reached m image.
+          let from = ran reached m image in
           omega (arith, always (from .reached), ap₂ ceiling (from .same-limit) (from .same-words));
     }
+
+-- so is an opening without numbers, refused or not, and a run of its image
+module _ (dialect : Dialect) (count : ℕ) (windows : List Window) (image : List ℕ) (limit : ℕ) where
+  pub opened-within : openedBy dialect count windows image limit .session .fetched ≤ ceiling limit (length image / 4)
+  unfolding limitOf wordsOf pick
+  opened-within = always (opened false dialect count windows image limit)
+
+  pub ran-within : (m : List ℕ)
+      → runOf (openedBy dialect count windows image limit .session) m image .answer .session .fetched ≤ ceiling limit (length image / 4)
+  unfolding limitOf wordsOf pick
+  ran-within m = ceilings .run (opened false dialect count windows image limit) m image
 
 -- the definitions compute
 pub ceiling-met : CeilingMet
 unfolding pick join number bytesAt wordAt hasRight inside grantsRange placeFrom placeOf sumOf soundWindow allSound rising goodMap keptOf
-    rows rowServes foundIn lookedUp multiple entryJudged closeDone goodLength openedBy countedOn present argument readAt after stepOf
+    rows rowServes foundIn lookedUp multiple entryJudged closeDone goodLength openedBy numberingFrom countedOn present argument readAt after stepOf
 ceiling-met = record { fetched = refl; most = refl }

@@ -17,19 +17,21 @@ use Rattle.opcodes.specs.rules.Answers.{codeOf}
 use Rattle.opcodes.specs.declared.Command.{Command}
 use Rattle.opcodes.specs.declared.Refusal.{Refusal}
 use Rattle.opcodes.specs.declared.Refusal.the-variants.{None, Map, Image, Magic, Ended}
+use Rattle.ledger.specs.rules.Totals.{fromOne}
 use Rattle.reading.specs.rules.Reading.{wordsFrom}
 use Rattle.commands.specs.rules.Commands.{multiple}
 use Rattle.flash_commands.specs.claims.Ways.{met, Reads, Forward, Back, Kept, spares, Way, forward, back, kept, Call}
 use Rattle.opcodes.specs.declared.Dialect.{Dialect}
 use Rattle.flash_session.specs.rules.Opening.{goodLength, openedBy}
-use Rattle.flash_laws.specs.claims.Reached.{Reached, opened, called}
-use Rattle.flash_session.specs.rules.Sessions.{CallOutcome, countedOn}
+use Rattle.flash_laws.specs.claims.Reached.{openedTo, Reached, opened, called}
+use Rattle.flash_session.specs.rules.Sessions.{CallOutcome, countedOn, withTotals}
 use Rattle.flash.specs.rules.Step.{stepOf}
 use Rattle.flash_session.specs.declared.Called.{Called}
 use Rattle.flash_session.specs.declared.Opened.{Opened}
 use Rattle.flash_session.specs.declared.Session.{Session}
 use Rattle.flash_commands.proofs.Ways.{counted-none, counted-both, not-over}
 use Rattle.flash_laws.proofs.Calls.{every-call}
+use Rattle.flash_laws.proofs.Reached.{opened-as}
 use Rattle.flash_session.proofs.Lengths.{length-small}
 use Rattle.flash.proofs.Cases.{call-ended}
 use Rattle.flash_runs.specs.claims.Ceiling.{wordsOf}
@@ -91,20 +93,23 @@ one-where-begun : openingFetches None ≡ 1
 one-where-begun = passed _ _ _ refl
 
 -- the count since the opening is the sum, as far as 32 bits hold it
+abbrev Counts : Opened → Type 0
+Counts o = o .session .fetched ≡ openingFetches (o .refusal)
+
 opened-counts : (dialect : Dialect) (count : ℕ) (windows : List Window) (image : List ℕ) (limit : ℕ)
-    → openedBy dialect count windows image limit .session .fetched ≡ openingFetches (openedBy dialect count windows image limit .refusal)
+    → Counts (openedBy dialect count windows image limit)
 unfolding openedBy
 opened-counts dialect count windows image limit =
-    let Counts : Opened → Type 0 = λ o. o .session .fetched ≡ openingFetches (o .refusal) in
     of-choice Counts _ (λ e. sym none-for-map)
     (λ e. of-choice Counts _ (λ e. sym none-for-image) (λ e. of-choice Counts _ (λ e. sym one-for-magic) (λ e. sym one-where-begun)))
 
 pub reached-counts : {s : Session} (reached : Reached s) → s .fetched ≡ countedOn 0 (prescribed reached)
 unfolding prescribed countedOn
-reached-counts (opened dialect count windows image limit) =
-    let few : openingFetches (openedBy dialect count windows image limit .refusal) ≤ 1 =
+reached-counts (opened numbers dialect count windows image limit) =
+    let few : openingFetches (openedTo numbers dialect count windows image limit .refusal) ≤ 1 =
     of-choice (λ (n : ℕ). n ≤ 1) _ (λ e. omega arith) (λ e. omega arith) in
-    opened-counts dialect count windows image limit ∙ omega (arith, few)
+    opened-as Counts (λ o counts. counts) numbers dialect count windows image limit (opened-counts dialect count windows image limit)
+    ∙ omega (arith, few)
 reached-counts (called {s} lent before) =
     let more = callFetches s (lent .image) (stepOf s (lent .memory) (lent .image) .answer .refusal) in
     way-counts s (lent .image) (every-call s (lent .memory) (lent .image) .way)
@@ -209,18 +214,19 @@ length-least : (n : ℕ) → goodLength n ≡ true → 4 ≤ n
 unfolding goodLength
 length-least n e = leb-true _ _ (both (multiple n 4) (leb 4 n) (both (multiple n 4 && leb 4 n) (leb n 65536) e .0) .1)
 
+abbrev Stands : ℕ → ℕ → Opened → Type 0
+Stands limit words o = Standing (o .session) (openingFetches (o .refusal)) limit words
+
 opened-standing : (dialect : Dialect) (count : ℕ) (windows : List Window) (image : List ℕ) (limit : ℕ)
-    → Standing (openedBy dialect count windows image limit .session) (openingFetches (openedBy dialect count windows image limit .refusal)) limit
-    (length image / 4)
+    → Stands limit (length image / 4) (openedBy dialect count windows image limit)
 unfolding openedBy
 opened-standing dialect count windows image limit =
-    let Stands : Opened → Type 0 = λ o. Standing (o .session) (openingFetches (o .refusal)) limit (length image / 4) in
-    of-choice Stands _ (λ e. shut refl (omega (arith, none-for-map)) (omega (arith, none-for-map)))
-    (λ e. of-choice Stands _ (λ e. shut refl (omega (arith, none-for-image)) (omega (arith, none-for-image)))
+    of-choice (Stands limit (length image / 4)) _ (λ e. shut refl (omega (arith, none-for-map)) (omega (arith, none-for-map)))
+    (λ e. of-choice (Stands limit (length image / 4)) _ (λ e. shut refl (omega (arith, none-for-image)) (omega (arith, none-for-image)))
     (λ sound.
     let least = length-least (length image) (not-false _ sound) in
     let small = length-small (length image) (not-false _ sound) in
-    of-choice Stands _ (λ e. shut refl (omega (arith, one-for-magic)) (omega (arith, one-for-magic, least)))
+    of-choice (Stands limit (length image / 4)) _ (λ e. shut refl (omega (arith, one-for-magic)) (omega (arith, one-for-magic, least)))
     (λ e. going
     (record {
       same-limit = refl;
@@ -231,9 +237,26 @@ opened-standing dialect count windows image limit =
       most = omega (arith, one-where-begun, least);
     }))))
 
+-- whatever its totals are
+other-stands : (limit words : ℕ) (o : Opened) → Stands limit words o
+    → Stands limit words (record { refusal = o .refusal; session = withTotals (o .session) (fromOne (o .session .totals)) })
+other-stands limit words o (going g) =
+    going
+    (record {
+      same-limit = g .same-limit;
+      same-words = g .same-words;
+      small = g .small;
+      within = g .within;
+      running = g .running;
+      most = g .most;
+    })
+other-stands limit words o (shut over few low) = shut over few low
+
 pub reached-standing : {s : Session} (reached : Reached s) → Standing s (prescribed reached) (limitOf reached) (wordsOf reached)
 unfolding prescribed limitOf wordsOf
-reached-standing (opened dialect count windows image limit) = opened-standing dialect count windows image limit
+reached-standing (opened numbers dialect count windows image limit) =
+    opened-as (Stands limit (length image / 4)) (other-stands limit (length image / 4)) numbers dialect count windows image limit
+    (opened-standing dialect count windows image limit)
 reached-standing (called {s} lent before) = go (reached-standing before)
   where
     go : Standing s (prescribed before) (limitOf before) (wordsOf before)

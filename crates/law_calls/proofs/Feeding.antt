@@ -1,6 +1,6 @@
 -- When a call feeds its units, and what it comes to then: each test that could stop it is passed, so that the result is that of its units fed. What stops it
 -- before is 1, 2, 19 or 24, so that the number tells.
-use Prim.Native.Nat.{ℕ, zero, suc, _+_, _*_, _/_, _^_, _≤_, _<_}
+use Prim.Native.Nat.{ℕ, zero, suc, _*_, _/_, _^_, _≤_, _<_}
 use mathlib.Core.Bool.{Bool, true, false, not, true≢false, false≢true}
 use mathlib.Core.List.{List, _++_}
 use mathlib.Core.Path.{_≡_, refl, sym, ap, _∙_}

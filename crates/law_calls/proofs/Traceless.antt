@@ -21,7 +21,8 @@ use Rattle.bit_watch.specs.rules.Watched.{entriesAfter}
 use Rattle.bench_sessions.specs.rules.Feeding.{SessionOutcome, fedFrom, begun}
 use Rattle.bench_sessions.specs.rules.Numbers.{choiceOn, lineOf, cleared}
 use Rattle.law_retries.specs.claims.Entries.{NoEntryLeft}
-use Rattle.law_retries.specs.claims.Pieces.{Piece, AreWords, allWords}
+use Rattle.sent_laws.specs.claims.Lines.{AreWords}
+use Rattle.law_retries.specs.claims.Pieces.{Piece, allWords}
 use Rattle.law_retries.specs.claims.Retries.{Attempt, attemptWords, attemptsWords, NoTrace, Retried}
 use Rattle.law_retries.proofs.Beginnings.{beginnings}
 use Rattle.law_retries.proofs.Entries.{retries-leave-no-entry, many-retries-leave-no-entry}
@@ -226,10 +227,10 @@ calls-leave-no-trace =
           no-trace-in-call lent (attemptsWords attempts) (allWords (c ∷ cs)) call whole (attempts-words attempts (r .accepted .sendable .0))
           (pieces-words (c ∷ cs) (r .accepted .sendable .1)) (many-retries-leave-no-trace (busOf call) (stateThere call lent) attempts c cs r)
           (many-retries-leave-no-entry (busOf call) (stateThere call lent) attempts c cs r) (r .accepted .attempt-accepted);
-      since-opening = λ call lent a c cs whole just-after other accepted covers.
+      since-opening = λ call lent a c cs whole just-after lent-whole other accepted covers.
           one-traceless call lent a c cs whole
           (record {
-            begins = beginnings (busOf call) .begins (stateThere call lent) just-after;
+            begins = beginnings (busOf call) .begins (stateThere call lent) just-after lent-whole;
             not-alone = other;
             accepted = accepted;
             covered = covers;

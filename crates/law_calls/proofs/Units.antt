@@ -12,7 +12,8 @@ use Rattle.sent.specs.rules.Bus.{allUnits, halvesOf, unitsFed}
 use Rattle.sent.specs.declared.Bus.{Bus}
 use Rattle.sent.specs.declared.Bus.the-variants.{Bytes, Halves}
 use Rattle.bench_sessions.specs.rules.Feeding.{unitBytes}
-use Rattle.law_retries.specs.claims.Pieces.{Piece, startOverOpcode, allWords, wordsOf, AreWords, AllSendable}
+use Rattle.sent_laws.specs.claims.Lines.{AreWords}
+use Rattle.law_retries.specs.claims.Pieces.{Piece, startOverOpcode, allWords, wordsOf, AllSendable}
 use Rattle.law_retries.specs.claims.Retries.{Attempt, askingOpcode, attemptWords, attemptsWords, attemptsPieces}
 use Rattle.law_retries.proofs.Several.{sendable-append}
 use Rattle.law_calls.specs.claims.Traceless.{Lent, fedAround}

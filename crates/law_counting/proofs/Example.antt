@@ -12,6 +12,7 @@ use Rattle.reading.specs.rules.Reading.{present, argument, readAt}
 use Rattle.commands.specs.rules.Commands.{multiple, rangeJudged, unitOf, unitsJudged, fillJudged, fillDone, fillMemory, entryJudged, closeDone, target}
 use Rattle.commands.specs.rules.Commands.{soughtFrom}
 use Rattle.stores.specs.rules.Stores.{filled}
+use Rattle.flash_session.specs.rules.Opening as flash-opening
 use Rattle.flash_session.specs.rules.Opening.{goodLength}
 use Rattle.flash_session.specs.rules.Sessions.{countedOn, after}
 use Rattle.flash_commands.specs.rules.Commands.{requested}
@@ -25,6 +26,7 @@ use Rattle.sent.specs.rules.Line.{carried, isStart, unitStep}
 use Rattle.sent.specs.rules.Opening.{openedBy, numberingFrom}
 use Rattle.sent.specs.declared.Bus.{Bus}
 use Rattle.sent.specs.declared.Bus.the-variants.{Bytes, Halves}
+use Rattle.sent_laws.specs.claims.Reached.{fedReached}
 use Rattle.bit_history.specs.claims.UnitHistory.{endsWord}
 use Rattle.law_counting.specs.claims.Example.{WorkedOnLine, Worked}
 use Rattle.law_counting.specs.claims.InFlash as flash
@@ -32,13 +34,14 @@ use Rattle.law_counting.specs.claims.OnLine as line
 
 worked-on-line : (bus : Bus) → WorkedOnLine bus
 unfolding join byte number bytesAt put pick hasRight inside grantsRange placeFrom placeOf sumOf soundWindow allSound rising goodMap keptOf rows rowServes
-    foundIn lookedUp multiple rangeJudged unitOf unitsJudged fillJudged fillDone fillMemory filled isPast following pushed carried isStart unitStep afterCommand echoing
-    acknowledging wordStep openedBy numberingFrom fed endsWord line.wordActs line.acts line.handed
+    foundIn lookedUp multiple rangeJudged unitOf unitsJudged fillJudged fillDone fillMemory filled isPast following pushed carried isStart unitStep afterCommand
+    echoing acknowledging wordStep openedBy numberingFrom fed endsWord line.wordActs line.actsOf fedReached
 worked-on-line Bytes = record { acts = refl; stands = refl; next-number = refl }
 worked-on-line Halves = record { acts = refl; stands = refl; next-number = refl }
 
 pub worked : Worked
 unfolding pick join number bytesAt wordAt hasRight inside grantsRange placeFrom placeOf sumOf rows rowServes foundIn lookedUp isPast isOther
     multiple rangeJudged unitOf unitsJudged fillJudged fillDone entryJudged closeDone target soughtFrom goodLength countedOn present argument readAt after
-    requested stepOf account numbersTold flash.callActs flash.acts
+    requested stepOf account numbersTold soundWindow allSound rising goodMap keptOf flash-opening.openedBy flash-opening.numberingFrom
+    flash.callActs flash.actsOf
 worked = record { account-now = refl; account-numbers = refl; on-line = worked-on-line; in-flash = refl; flash-now = refl }

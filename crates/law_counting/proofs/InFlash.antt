@@ -1,6 +1,6 @@
 -- Each call goes one of its ways: forward it is what its command is to the totals, back it is a seek, refused it is nothing. And a command that is accepted was
 -- granted, so that the history has it once, by the next number.
-use Prim.Native.Nat.{ℕ, _+_, _*_}
+use Prim.Native.Nat.{ℕ, _+_}
 use mathlib.Core.Bool.{Bool, true, false, not, _&&_, true≢false, false≢true}
 use mathlib.Core.List.{List, [], _∷_, _++_}
 use mathlib.Core.Path.{_≡_, refl, sym, ap, ap₂, subst, _∙_}
@@ -23,42 +23,42 @@ use Rattle.opcodes.specs.declared.Dialect.the-variants.{Am17xx, Dm648}
 use Rattle.opcodes.specs.declared.Found.{Found}
 use Rattle.opcodes.specs.declared.Found.the-variants.{Known}
 use Rattle.opcodes.specs.declared.Mode.the-variants.{Flash}
-use Rattle.opcodes.specs.declared.Refusal.{Refusal}
 use Rattle.opcodes.specs.declared.Refusal.the-variants as refusal
 use Rattle.opcodes.proofs.Counts.{rowIs, row-is}
 use Rattle.ledger.specs.rules.Totals.{atOpening, fromOne, wouldPass, isSpent}
-use Rattle.ledger.specs.claims.Account.{Act, matched, retry, Account, account, numbersTold, toldBy}
+use Rattle.ledger.specs.claims.Account.{Act, Account, numbersTold}
 use Rattle.ledger.specs.claims.Account as the-account
 use Rattle.ledger.specs.claims.Booked.{standingOf, nextOf, totalsOf, Leads, happenedAct}
 use Rattle.ledger.specs.declared.Happening.{Happening}
 use Rattle.ledger.specs.declared.Happening.the-variants as happened
 use Rattle.ledger.specs.declared.Totals.{Totals}
 use Rattle.ledger.proofs.Booked.{none-booked, happened-booked}
-use Rattle.reading.specs.rules.Reading.{pastWords, argument, readAt}
+use Rattle.reading.specs.rules.Reading.{pastWords, argument}
 use Rattle.reading.specs.declared.Read.{Read}
 use Rattle.reading.proofs.Reading.{Reads as ReadsAs, no-opcode, unknown, retired, cut-short, whole, reads as how-read}
-use Rattle.commands.specs.rules.Commands.{barred, loadJudged, unitOf, fillJudged, fillDone, shapeOf, settingJudged, settingDone}
+use Rattle.commands.specs.rules.Commands.{barred, unitOf, fillDone, shapeOf, settingDone}
 use Rattle.commands.specs.declared.Done.{Done}
 use Rattle.commands.specs.declared.Judged.{Judged}
-use Rattle.commands.specs.declared.Judged.the-variants.{Granted, Refused}
+use Rattle.commands.specs.declared.Judged.the-variants.{Refused}
 use Rattle.commands.specs.declared.Wrote.{Wrote}
 use Rattle.law_effects.specs.claims.Effects.{Effect, loadEffect, fillEffect, settingEffect}
 use Rattle.flash_session.specs.rules.Opening.{goodLength, magic, refusedBy, begun, openedBy, numberingFrom}
-use Rattle.flash_session.specs.rules.Sessions.{CallOutcome, _leaving_, fetching, unchanged, after}
+use Rattle.flash_session.specs.rules.Sessions.{CallOutcome, fetching, after}
 use Rattle.flash_session.specs.declared.Called.{Called}
 use Rattle.flash_session.specs.declared.Opened.{Opened}
 use Rattle.flash_session.specs.declared.Session.{Session}
 use Rattle.flash_commands.specs.rules.Commands.{fillJudgedAs, settingJudgedAs}
-use Rattle.flash_commands.specs.claims.Ways.{happening, Way, forward, back, kept, Call}
+use Rattle.flash_commands.specs.claims.Ways.{happening, Way, forward, back, kept}
 use Rattle.flash_commands.proofs.Verdicts.{Judges, grants, denies, load-judges, fill-judges, setting-judges}
 use Rattle.flash.specs.rules.Step.{loadJudgedAs, performed, followed, stepOf}
-use Rattle.flash_laws.specs.claims.Totals.{Lent, answerTo, afterCalls}
+use Rattle.flash_laws.specs.claims.Reached.{openedTo, Reached, opened, called}
+use Rattle.flash_laws.specs.claims.Totals.{Lent, answerTo}
 use Rattle.flash_laws.proofs.Calls.{every-call}
 use Rattle.bit_history.specs.claims.Accepted.{judgedOne}
-use Rattle.bit_history.specs.claims.CallHistory.{acceptedCommand, acceptedRow, callHistory, history}
-use Rattle.law_counting.specs.claims.InFlash.{commandAct, foundActs, callActs, acts, opening, Counts, InFlash}
+use Rattle.bit_history.specs.claims.CallHistory.{acceptedCommand, acceptedRow, callHistory}
+use Rattle.law_counting.specs.claims.InFlash.{commandAct, foundActs, callActs, actsOf, historyOf, numbers, InFlash}
 use Rattle.law_counting.specs.claims.Numbers.{numbersIn}
-use Rattle.law_counting.proofs.Numbers.{numbers-both}
+use Rattle.law_counting.proofs.Numbers.{numbers-both, all-counted, told-both, leads-on}
 
 -- what happens in a command that goes forward is the command's act
 forward-act : (d : Dialect) (c : Command) (n size : ℕ) → rowIs Flash d c n ≡ true → happenedAct (happening c size) ≡ commandAct c size false
@@ -111,7 +111,9 @@ module _ (numbering : Bool) (a : Account) (s : Session) (lent : Lent) where
           (takes (f .accepted) (f .reads .row) (le-ltb (answer .session .offset) (s .offset) (omega (arith, f .offset)))
           ∙ ap (λ (act : Act). act ∷ []) (sym (forward-act (s .dialect) (f .command) (f .reads .arguments) size row)))
           (f .totals) (happened-booked (happening (f .command) size) here (f .fits))
-      go (back b) = by (takes (b .accepted) (b .reads .row) (lt-ltb (answer .session .offset) (s .offset) (b .below))) (b .totals) (happened-booked happened.Retried here tt)
+      go (back b) =
+          by (takes (b .accepted) (b .reads .row) (lt-ltb (answer .session .offset) (s .offset) (b .below))) (b .totals)
+          (happened-booked happened.Retried here tt)
       go (kept k) = by (takes-none (k .refused)) (k .totals) (none-booked here)
 
 -- a command that is accepted was granted
@@ -220,40 +222,6 @@ module _ (a : Account) (s : Session) (lent : Lent) (here : s .totals .next ≡ a
       ∙ sym (ap (numbersTold a) (chosen _ _ [] e)))
       (λ e. ap numbersIn (passed _ _ [] e) ∙ sym (ap (numbersTold a) (passed _ _ [] e)))
 
--- any calls
-record Ends (numbering : Bool) (a : Account) (s : Session) (calls : List Lent) : Type 0 where
-  there : Account
-  totals : afterCalls s calls .totals ≡ totalsOf (s .dialect) numbering there false
-  all : account a (acts s calls) ≡ there
-
-calls-end : (numbering : Bool) (calls : List Lent) (a : Account) (s : Session) → s .totals ≡ totalsOf (s .dialect) numbering a false
-    → Ends numbering a s calls
-unfolding afterCalls acts account
-calls-end numbering [] a s here = record { there = a; totals = here; all = refl }
-calls-end numbering (lent ∷ rest) a s here =
-    let leads = call-leads numbering a s lent here in
-    let same = every-call s (lent .memory) (lent .image) .same-dialect in
-    let t : Session = answerTo s lent .session in
-    let later = calls-end numbering rest (leads .there) t (leads .totals ∙ sym (ap (λ (d : Dialect). totalsOf d numbering (leads .there) false) same)) in
-    record {
-      there = later .there;
-      totals = later .totals ∙ ap (λ (d : Dialect). totalsOf d numbering (later .there) false) same;
-      all = leads .goes-on (acts t rest) ∙ later .all;
-    }
-
-calls-told : (calls : List Lent) (a : Account) (s : Session) → s .totals ≡ totalsOf (s .dialect) true a false
-    → numbersIn (history s calls) ≡ numbersTold a (acts s calls)
-unfolding history acts numbersTold numbersIn
-calls-told [] a s here = refl
-calls-told (lent ∷ rest) a s here =
-    let leads = call-leads true a s lent here in
-    let same = every-call s (lent .memory) (lent .image) .same-dialect in
-    let t : Session = answerTo s lent .session in
-    let later = calls-told rest (leads .there) t (leads .totals ∙ sym (ap (λ (d : Dialect). totalsOf d true (leads .there) false) same)) in
-    numbers-both (callHistory s (lent .memory) (lent .image)) (history t rest)
-    ∙ ap₂ _++_ (call-told a s lent (ap (λ (t : Totals). t .next) here)) later
-    ∙ sym (leads .tells-on (acts t rest))
-
 -- every opening begins an account
 nothing-yet : (d : Dialect) → atOpening ≡ totalsOf d false the-account.opened false
 nothing-yet Am17xx = refl
@@ -277,22 +245,45 @@ numbering-begins o plain =
     of-choice (Begins true) (accepted (o .refusal)) {b = o} (λ e. record { totals = ap fromOne (plain .totals) ∙ ap from (sym e) })
     (λ e. record { totals = plain .totals ∙ ap from (sym e) })
 
-every-opening : (numbering : Bool) (dialect : Dialect) (count : ℕ) (windows : List Window) (image : List ℕ) (limit : ℕ)
-    → Begins numbering (opening numbering dialect count windows image limit)
+every-opening : (numbers : Bool) (dialect : Dialect) (count : ℕ) (windows : List Window) (image : List ℕ) (limit : ℕ)
+    → Begins numbers (openedTo numbers dialect count windows image limit)
+unfolding pick
 every-opening false dialect count windows image limit = plain-begins dialect count windows image limit
 every-opening true dialect count windows image limit =
     numbering-begins (openedBy dialect count windows image limit) (plain-begins dialect count windows image limit)
 
+-- and every call leads on from there
+abbrev Led : {s : Session} → Reached s → Type 0
+Led {s} reached = Leads (s .dialect) (numbers reached) the-account.opened false (actsOf reached) (s .totals) false
+
+reached-led : {s : Session} (reached : Reached s) → Led reached
+unfolding actsOf
+reached-led (opened numbers dialect count windows image limit) = none-booked (every-opening numbers dialect count windows image limit .totals)
+reached-led (called {s} lent before) =
+    let led = reached-led before in
+    let call : Lent = record { memory = lent .memory; image = lent .image } in
+    subst (λ (d : Dialect). Leads d (numbers before) the-account.opened false (actsOf before ++ callActs s call) (answerTo s call .session .totals) false)
+    (sym (every-call s (lent .memory) (lent .image) .same-dialect)) (leads-on led (call-leads (numbers before) (led .there) s call (led .totals)))
+
+reached-told : {s : Session} (reached : Reached s) → numbers reached ≡ true
+    → numbersIn (historyOf reached) ≡ numbersTold the-account.opened (actsOf reached)
+unfolding actsOf historyOf numbersIn numbersTold
+reached-told (opened numbers dialect count windows image limit) numbered = refl
+reached-told (called {s} lent before) numbered =
+    let led = reached-led before in
+    let call : Lent = record { memory = lent .memory; image = lent .image } in
+    let here : s .totals .next ≡ led .there .now .numbers + 1 =
+    ap (λ (t : Totals). t .next) (led .totals) ∙ ap (λ (n : Bool). nextOf n (led .there .now .numbers)) numbered in
+    numbers-both (historyOf before) (callHistory s (lent .memory) (lent .image))
+    ∙ ap₂ _++_ (reached-told before numbered) (call-told (led .there) s call here)
+    ∙ sym (told-both led (call-leads (numbers before) (led .there) s call (led .totals)))
+
 pub in-flash : InFlash
-in-flash numbering dialect count windows image limit calls =
-    let o : Opened = opening numbering dialect count windows image limit in
-    let kept-numbers : Bool = numbering && accepted (o .refusal) in
-    let start = every-opening numbering dialect count windows image limit .totals in
-    let ends = calls-end kept-numbers calls the-account.opened (o .session) start in
+in-flash s reached =
+    let led = reached-led reached in
+    let all = sym (all-counted led) in
     record {
-      totals = ap (λ (t : Totals). t .now) (ends .totals) ∙ ap (λ (b : Account). standingOf (o .session .dialect) (b .now)) (sym (ends .all));
-      next = ap (λ (t : Totals). t .next) (ends .totals) ∙ ap (λ (b : Account). nextOf kept-numbers (b .now .numbers)) (sym (ends .all));
-      numbers = λ numbered.
-          calls-told calls the-account.opened (o .session)
-          (start ∙ ap (λ (n : Bool). totalsOf (o .session .dialect) n the-account.opened false) numbered);
+      totals = ap (λ (t : Totals). t .now) (led .totals) ∙ ap (λ (b : Account). standingOf (s .dialect) (b .now)) all;
+      next = ap (λ (t : Totals). t .next) (led .totals) ∙ ap (λ (b : Account). nextOf (numbers reached) (b .now .numbers)) all;
+      told = reached-told reached;
     }

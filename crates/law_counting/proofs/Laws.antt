@@ -1,10 +1,10 @@
 -- What is counted and what stood at the mark, act by act: without a retry each act adds, and without a mark the mark stays.
-use mathlib.Core.Bool.{Bool, true, false, true≢false}
+use mathlib.Core.Bool.{true, false, true≢false}
 use mathlib.Core.List.{List, [], _∷_, _++_}
 use mathlib.Core.Path.{_≡_, refl, sym, ap, _∙_}
 use Rattle.words.specs.rules.Choice.{pick}
 use Rattle.words.proofs.Choice.{chosen, passed, of-choice}
-use Rattle.ledger.specs.claims.Account.{Act, section, load, piece, setting, enable, asked, matched, retry, other, Count, adding, putsBack, marks, Account}
+use Rattle.ledger.specs.claims.Account.{Act, section, load, piece, setting, enable, asked, matched, retry, other, putsBack, marks, Account}
 use Rattle.ledger.specs.claims.Account.{opened, booked, account}
 use Rattle.law_counting.specs.claims.Laws.{NoRetry, summed, NoMark, AccountLaws}
 

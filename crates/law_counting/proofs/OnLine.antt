@@ -27,9 +27,9 @@ use Rattle.opcodes.specs.declared.Refusal.{Refusal}
 use Rattle.opcodes.specs.declared.Refusal.the-variants as refusal
 use Rattle.opcodes.proofs.Counts.{rowIs, row-is}
 use Rattle.ledger.specs.rules.Totals.{atOpening, fromOne, wouldPass, isSpent, turned}
-use Rattle.ledger.specs.claims.Account.{Act, Account, account, numbersTold}
+use Rattle.ledger.specs.claims.Account.{Act, Account, numbersTold}
 use Rattle.ledger.specs.claims.Account as the-account
-use Rattle.ledger.specs.claims.Booked.{standingOf, nextOf, totalsOf, since, Leads, byMark, opcodeAct}
+use Rattle.ledger.specs.claims.Booked.{standingOf, nextOf, totalsOf, Leads, byMark, opcodeAct}
 use Rattle.ledger.specs.declared.Totals.{Totals}
 use Rattle.ledger.proofs.Booked.{none-booked, opcode-booked, piece-booked}
 use Rattle.commands.specs.rules.Commands.{barred, doneIf, unitOf, fillJudged, fillDone, shapeOf, settingJudged, settingDone}
@@ -45,25 +45,24 @@ use Rattle.machine_answers.specs.declared.Kept.{Kept}
 use Rattle.machine_answers.specs.declared.Phase.{Phase}
 use Rattle.machine_answers.specs.declared.Phase.the-variants as phase
 use Rattle.machine_answers.specs.declared.Taken.{Taken}
-use Rattle.machine_loads.proofs.Granted.{Numbered, numbers}
+use Rattle.machine_loads.proofs.Granted.{Numbered, numbers as code-numbers}
 use Rattle.machine_commands.specs.rules.Performed.{noneKept, echoing, settingTotals, performed}
 use Rattle.machine_commands.specs.claims.Booked.{doneActs}
 use Rattle.machine_commands.proofs.Booked.{commands-booked}
-use Rattle.machine.specs.rules.Machine.{keeping, toward, begun, acknowledging, opening as acknowledged, atOpcode, inPhase, wordStep}
+use Rattle.machine.specs.rules.Machine.{keeping, toward, begun, acknowledging, atOpcode, inPhase, wordStep}
 use Rattle.machine.proofs.Every.{every-word}
 use Rattle.sent.specs.rules.Bus.{unitsInWord, pushed}
-use Rattle.sent.specs.rules.Feeding.{State, next}
 use Rattle.sent.specs.rules.Line.{UnitOutcome, plainly, gathered, carried, isStart, startAnswer, unitStep}
 use Rattle.sent.specs.rules.Opening.{openedBy, numberingFrom}
 use Rattle.sent.specs.declared.Bus.{Bus}
 use Rattle.sent.specs.declared.Opened.{Opened}
 use Rattle.sent.specs.declared.Session.{Session}
+use Rattle.sent_laws.specs.claims.Reached.{openedTo, Reached, opened, stepped}
 use Rattle.bit_history.specs.claims.Accepted.{judgedOne}
-use Rattle.bit_history.specs.claims.UnitHistory.{lastWord, acceptedWord, wordHistory, endsWord, unitHistory, history}
+use Rattle.bit_history.specs.claims.UnitHistory.{lastWord, acceptedWord, wordHistory, endsWord, unitHistory, historyOf}
 use Rattle.law_counting.specs.claims.Numbers.{numbersIn}
-use Rattle.law_counting.specs.claims.OnLine.{opcodeActs, phaseActs, wordActs, Given, unitActs, afterUnit, afterUnits, acts, handed, opening, Counts}
-use Rattle.law_counting.specs.claims.OnLine.{OnLine}
-use Rattle.law_counting.proofs.Numbers.{numbers-both}
+use Rattle.law_counting.specs.claims.OnLine.{opcodeActs, phaseActs, wordActs, unitActs, actsOf, numbers, OnLine}
+use Rattle.law_counting.proofs.Numbers.{numbers-both, all-counted, told-both, leads-on}
 
 -- where argument words or data are awaited, no Request stands unsettled
 abbrev Settled : Phase → Bool → Type 0
@@ -181,7 +180,8 @@ module _ (numbering : Bool) (a : Account) (k : Core) (m : List ℕ) (word : ℕ)
       record {
         standing = false;
         leads =
-            argument-goes (eqb (left - 1) 0) c left kept here (quiet (await k (k .tally) (phase.Argument c (left - 1) (keeping kept word))) leaving m) refl refl;
+            argument-goes (eqb (left - 1) 0) c left kept here (quiet (await k (k .tally) (phase.Argument c (left - 1) (keeping kept word))) leaving m) refl
+            refl;
         settled = settled-always (toward c (left - 1) k m kept word .answer .core .stage .phase);
       }
   phase-goes true (phase.Data end left) at settled here = absurd (true≢false settled)
@@ -199,12 +199,9 @@ module _ (numbering : Bool) (a : Account) (k : Core) (m : List ℕ) (word : ℕ)
   word-goes asks settled here = phase-goes asks (k .stage .phase) refl settled here
 
 -- a unit: the word that it ends, or nothing
-module _ (numbering : Bool) (a : Account) (asks : Bool) (bus : Bus) (s : Session) (given : Given) where
-  abbrev m : List ℕ
-  m = given .memory
-
+module _ (numbering : Bool) (a : Account) (asks : Bool) (bus : Bus) (s : Session) (m : List ℕ) (u : ℕ) where
   abbrev word : ℕ
-  word = pushed bus (s .line .word) (given .unit)
+  word = pushed bus (s .line .word) u
 
   abbrev tested : Bool → Bool → Bool → Bool → Bool → UnitOutcome
   tested ended right start started short =
@@ -231,14 +228,14 @@ module _ (numbering : Bool) (a : Account) (asks : Bool) (bus : Bus) (s : Session
   by-tests stays goes false true false true false = goes
 
   unit-goes : Settled (s .core .stage .phase) asks → s .core .tally .totals ≡ totalsOf (s .core .dialect) numbering a asks
-      → Onward (unitActs bus s given) (afterUnit bus s given .core)
+      → Onward (unitActs bus s m u) (unitStep bus s m u .answer .session .core)
   unfolding unitStep endsWord
   unit-goes settled here =
       by-tests (record { standing = asks; leads = none-booked here; settled = settled }) (word-goes numbering a (s .core) m word asks settled here)
-      (s .core .ended) (eqb (length m) (sumOf (s .core .windows))) (isStart bus s (given .unit)) (s .line .started) (ltb (s .line .have) (unitsInWord bus - 1))
+      (s .core .ended) (eqb (length m) (sumOf (s .core .windows))) (isStart bus s u) (s .line .started) (ltb (s .line .have) (unitsInWord bus - 1))
 
   -- the dialect stays
-  unit-dialect : afterUnit bus s given .core .dialect ≡ s .core .dialect
+  unit-dialect : unitStep bus s m u .answer .session .core .dialect ≡ s .core .dialect
   unfolding unitStep carried
   unit-dialect =
       let Same : UnitOutcome → Type 0 = λ o. o .answer .session .core .dialect ≡ s .core .dialect in
@@ -272,14 +269,14 @@ module _ (a : Account) (k : Core) (m : List ℕ) (word : ℕ) (here : k .tally .
   last-told command.Fill kept e =
       let first : Judged = fillJudged (k .windows) (kept .first) (kept .second) (kept .third) in
       done-listed k (k .tally .totals .next) (countedOn k (kept .second)) first _ _ _ _ (λ place. fillEffect place (kept .second) (unitOf (kept .third)) word)
-      (fill-passes _ numbers (k .windows) (kept .first) (kept .second) (kept .third))
+      (fill-passes _ code-numbers (k .windows) (kept .first) (kept .second) (kept .third))
       (λ q r. barred-first (isSpent (k .tally .totals)) refusal.Number _ q
       (barred-first (wouldPass (k .dialect) (k .tally .totals) (kept .second)) refusal.Overflow first q r)) e
       ∙ ap (λ (number : ℕ). number ∷ []) here
   last-told command.BootTable kept e =
       let first : Judged = settingJudged (k .windows) (kept .first) (kept .second) (kept .third) in
       done-listed k (k .tally .totals .next) (settingTotals k) first _ _ _ _ (λ place. settingEffect place (shapeOf (kept .first)) (kept .third))
-      (setting-passes _ numbers (k .windows) (kept .first) (kept .second) (kept .third))
+      (setting-passes _ code-numbers (k .windows) (kept .first) (kept .second) (kept .third))
       (λ q r. barred-first (isSpent (k .tally .totals)) refusal.Number first q r) e
       ∙ ap (λ (number : ℕ). number ∷ []) here
   last-told command.Enable kept e = refl
@@ -329,13 +326,13 @@ module _ (a : Account) (k : Core) (m : List ℕ) (word : ℕ) (here : k .tally .
       (λ e. ap numbersIn (chosen _ _ [] e) ∙ phase-told (k .stage .phase) e ∙ sym (ap (numbersTold a) (chosen _ _ [] e)))
       (λ e. ap numbersIn (passed _ _ [] e) ∙ sym (ap (numbersTold a) (passed _ _ [] e)))
 
-unit-told : (a : Account) (bus : Bus) (x : State) (u : ℕ) → x .session .core .tally .totals .next ≡ a .now .numbers + 1
-    → numbersIn (unitHistory bus x u) ≡ numbersTold a (unitActs bus (x .session) (record { memory = x .memory; unit = u }))
+unit-told : (a : Account) (bus : Bus) (s : Session) (m : List ℕ) (u : ℕ) → s .core .tally .totals .next ≡ a .now .numbers + 1
+    → numbersIn (unitHistory bus (record { session = s; memory = m }) u) ≡ numbersTold a (unitActs bus s m u)
 unfolding numbersIn numbersTold
-unit-told a bus x u here =
-    by-test (endsWord bus (x .session) (x .memory) u)
+unit-told a bus s m u here =
+    by-test (endsWord bus s m u)
     (λ e. ap numbersIn (chosen _ _ [] e)
-    ∙ word-told a (x .session .core) (x .memory) (pushed bus (x .session .line .word) u) here
+    ∙ word-told a (s .core) m (pushed bus (s .line .word) u) here
     ∙ sym (ap (numbersTold a) (chosen _ _ [] e)))
     (λ e. ap numbersIn (passed _ _ [] e) ∙ sym (ap (numbersTold a) (passed _ _ [] e)))
 
@@ -343,62 +340,6 @@ unit-told a bus x u here =
 record Stands (numbering : Bool) (a : Account) (asks : Bool) (s : Session) : Type 0 where
   totals : s .core .tally .totals ≡ totalsOf (s .core .dialect) numbering a asks
   settled : Settled (s .core .stage .phase) asks
-
-module _ (numbering : Bool) (bus : Bus) where
-  stands-on : (a : Account) (asks : Bool) (s : Session) (given : Given)
-      (steps : Steps (s .core .dialect) numbering a asks (unitActs bus s given) (afterUnit bus s given .core))
-      → Stands numbering (steps .leads .there) (steps .standing) (afterUnit bus s given)
-  stands-on a asks s given steps =
-      record {
-        totals =
-            steps .leads .totals
-            ∙ sym (ap (λ (d : Dialect). totalsOf d numbering (steps .leads .there) (steps .standing)) (unit-dialect numbering a asks bus s given));
-        settled = steps .settled;
-      }
-
-  record Ends (a : Account) (asks : Bool) (s : Session) (units : List Given) : Type 0 where
-    there : Account
-    standing : Bool
-    totals : afterUnits bus s units .core .tally .totals ≡ totalsOf (s .core .dialect) numbering there standing
-    all : account a (since asks (acts bus s units)) ≡ there
-
-  -- a Request that stands unsettled at the end has not marked
-  since-none : (a : Account) (asks : Bool) → account a (since asks []) ≡ a
-  unfolding account pick
-  since-none a true = refl
-  since-none a false = refl
-
-  units-end : (units : List Given) (a : Account) (asks : Bool) (s : Session) → Stands numbering a asks s → Ends a asks s units
-  unfolding afterUnits acts
-  units-end [] a asks s stands = record { there = a; standing = asks; totals = stands .totals; all = since-none a asks }
-  units-end (given ∷ rest) a asks s stands =
-      let steps = unit-goes numbering a asks bus s given (stands .settled) (stands .totals) in
-      let t : Session = afterUnit bus s given in
-      let later = units-end rest (steps .leads .there) (steps .standing) t (stands-on a asks s given steps) in
-      record {
-        there = later .there;
-        standing = later .standing;
-        totals =
-            later .totals ∙ ap (λ (d : Dialect). totalsOf d numbering (later .there) (later .standing)) (unit-dialect numbering a asks bus s given);
-        all = steps .leads .goes-on (acts bus t rest) ∙ later .all;
-      }
-
-none-told : (a : Account) (asks : Bool) → [] ≡ numbersTold a (since asks [])
-unfolding numbersTold
-none-told a true = refl
-none-told a false = refl
-
-units-told : (bus : Bus) (units : List ℕ) (a : Account) (asks : Bool) (x : State) → Stands true a asks (x .session)
-    → numbersIn (history bus x units) ≡ numbersTold a (since asks (acts bus (x .session) (handed bus x units)))
-unfolding history handed acts numbersIn
-units-told bus [] a asks x stands = none-told a asks
-units-told bus (u ∷ us) a asks x stands =
-    let given : Given = record { memory = x .memory; unit = u } in
-    let steps = unit-goes true a asks bus (x .session) given (stands .settled) (stands .totals) in
-    numbers-both (unitHistory bus x u) (history bus (next bus x u) us)
-    ∙ ap₂ _++_ (unit-told a bus x u (ap (λ (t : Totals). t .next) (stands .totals)))
-    (units-told bus us (steps .leads .there) (steps .standing) (next bus x u) (stands-on true bus a asks (x .session) given steps))
-    ∙ sym (steps .leads .tells-on (acts bus (next bus x u .session) (handed bus (next bus x u) us)))
 
 -- every opening begins an account
 nothing-yet : (d : Dialect) → atOpening ≡ totalsOf d false the-account.opened false
@@ -421,24 +362,59 @@ numbering-begins o plain =
     (λ e. record { totals = ap fromOne (plain .totals) ∙ ap from (sym e); settled = plain .settled })
     (λ e. record { totals = plain .totals ∙ ap from (sym e); settled = plain .settled })
 
-every-opening : (numbering : Bool) (bus : Bus) (dialect : Dialect) (count : ℕ) (windows : List Window)
-    → Begins numbering (opening numbering bus dialect count windows)
+-- every opening begins an account, and every unit leads on from there
+record Led (numbering : Bool) (s : Session) (taken : List Act) : Type 0 where
+  asks : Bool
+  leads : Leads (s .core .dialect) numbering the-account.opened false taken (s .core .tally .totals) asks
+  settled : Settled (s .core .stage .phase) asks
+
+every-opening : (numbers : Bool) (bus : Bus) (dialect : Dialect) (count : ℕ) (windows : List Window)
+    → Begins numbers (openedTo numbers bus dialect count windows)
+unfolding pick
 every-opening false bus dialect count windows = plain-begins bus dialect count windows
 every-opening true bus dialect count windows = numbering-begins (openedBy bus dialect count windows) (plain-begins bus dialect count windows)
 
-pub on-line : OnLine
-on-line numbering bus dialect count windows =
-    let o : Opened = opening numbering bus dialect count windows in
-    let kept-numbers : Bool = numbering && accepted (o .refusal) in
-    let start = every-opening numbering bus dialect count windows in
+unit-led : (numbering : Bool) (bus : Bus) (s : Session) (m : List ℕ) (u : ℕ) (taken : List Act) (led : Led numbering s taken)
+    → Steps (s .core .dialect) numbering (led .leads .there) (led .asks) (unitActs bus s m u) (unitStep bus s m u .answer .session .core)
+unit-led numbering bus s m u taken led =
+    unit-goes numbering (led .leads .there) (led .asks) bus s m u (led .settled) (led .leads .totals)
+
+reached-led : {bus : Bus} {s : Session} (reached : Reached bus s) → Led (numbers reached) s (actsOf reached)
+unfolding actsOf
+reached-led {bus} (opened numbers dialect count windows) =
+    let start = every-opening numbers bus dialect count windows in
+    record { asks = false; leads = none-booked (start .totals); settled = start .settled }
+reached-led {bus} (stepped {s} m u before) =
+    let led = reached-led before in
+    let steps = unit-led (numbers before) bus s m u (actsOf before) led in
     record {
-      totals = λ units.
-          let ends = units-end kept-numbers bus units the-account.opened false (o .session) start in
-          ap (λ (t : Totals). t .now) (ends .totals) ∙ ap (λ (b : Account). standingOf (o .session .core .dialect) (b .now)) (sym (ends .all));
-      next = λ units.
-          let ends = units-end kept-numbers bus units the-account.opened false (o .session) start in
-          ap (λ (t : Totals). t .next) (ends .totals) ∙ ap (λ (b : Account). nextOf kept-numbers (b .now .numbers)) (sym (ends .all));
-      numbers = λ m units numbered.
-          units-told bus units the-account.opened false (record { session = o .session; memory = m })
-          (subst (λ (n : Bool). Stands n the-account.opened false (o .session)) numbered start);
+      asks = steps .standing;
+      leads =
+          subst (λ (d : Dialect). Leads d (numbers before) the-account.opened false (actsOf before ++ unitActs bus s m u)
+          (unitStep bus s m u .answer .session .core .tally .totals) (steps .standing))
+          (sym (unit-dialect (numbers before) (led .leads .there) (led .asks) bus s m u)) (leads-on (led .leads) (steps .leads));
+      settled = steps .settled;
+    }
+
+reached-told : {bus : Bus} {s : Session} (reached : Reached bus s) → numbers reached ≡ true
+    → numbersIn (historyOf reached) ≡ numbersTold the-account.opened (actsOf reached)
+unfolding actsOf historyOf numbersIn numbersTold
+reached-told (opened numbers dialect count windows) numbered = refl
+reached-told {bus} (stepped {s} m u before) numbered =
+    let led = reached-led before in
+    let steps = unit-led (numbers before) bus s m u (actsOf before) led in
+    let here : s .core .tally .totals .next ≡ led .leads .there .now .numbers + 1 =
+    ap (λ (t : Totals). t .next) (led .leads .totals) ∙ ap (λ (n : Bool). nextOf n (led .leads .there .now .numbers)) numbered in
+    numbers-both (historyOf before) (unitHistory bus (record { session = s; memory = m }) u)
+    ∙ ap₂ _++_ (reached-told before numbered) (unit-told (led .leads .there) bus s m u here)
+    ∙ sym (told-both (led .leads) (steps .leads))
+
+pub on-line : OnLine
+on-line bus s reached =
+    let led = reached-led reached in
+    let all = sym (all-counted (led .leads)) in
+    record {
+      totals = ap (λ (t : Totals). t .now) (led .leads .totals) ∙ ap (λ (b : Account). standingOf (s .core .dialect) (b .now)) all;
+      next = ap (λ (t : Totals). t .next) (led .leads .totals) ∙ ap (λ (b : Account). nextOf (numbers reached) (b .now .numbers)) all;
+      told = reached-told reached;
     }

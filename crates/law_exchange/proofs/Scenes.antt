@@ -5,7 +5,7 @@ use mathlib.Core.List.{List, [], _++_, append-nil}
 use mathlib.Core.Path.{_≡_, refl, sym, ap, _∙_}
 use native.Mathlib.Nat.{zero-add, suc-add}
 use lib.Dec.{eqb}
-use lib.ListN.{length, replicate}
+use lib.ListN.{length}
 use borrow.Author.Tests.{eq-eqb}
 use Rattle.words.proofs.Choice.{chosen, passed}
 use Rattle.opcodes.specs.declared.Event.{Event}
@@ -13,8 +13,8 @@ use Rattle.opcodes.specs.declared.Refusal.{Refusal}
 use Rattle.opcodes.specs.declared.Refusal.the-variants as refusal
 use Rattle.flash_session.specs.rules.Opening.{goodLength}
 use Rattle.sent.specs.rules.Feeding.{State, Heard, fed, answers, replied, eventsHeard}
-use Rattle.sent.specs.claims.Lift.{refusedBy}
 use Rattle.sent.specs.declared.Bus.{Bus}
+use Rattle.sent.proofs.Feeding.{none-replied, none-told}
 use Rattle.sent.proofs.Lift.{absorbed}
 use Rattle.law_line.specs.claims.Line.{Carries}
 use Rattle.host_answers.specs.rules.Hosts.{heardAll}
@@ -77,18 +77,13 @@ module _ (image : List ℕ) where
   nothing-carried bus x = record { leads = refl; replies = refl; tells = refl }
 
   -- an ended loader absorbs all
-  none-heard : (n : ℕ) → (replied (replicate n (refusedBy refusal.Ended)) ≡ []) × (eventsHeard (replicate n (refusedBy refusal.Ended)) ≡ [])
-  unfolding replied eventsHeard
-  none-heard zero = (refl, refl)
-  none-heard (suc n) = none-heard n
-
   pub absorbed-carried : (bus : Bus) (x : State) (units : List ℕ) → x .session .core .ended ≡ true → Carries bus x units x [] []
   absorbed-carried bus x units over =
       let a = absorbed bus x units over in
       record {
         leads = a .stays;
-        replies = ap replied (a .hears) ∙ none-heard (length units) .0;
-        tells = ap eventsHeard (a .hears) ∙ none-heard (length units) .1;
+        replies = ap replied (a .hears) ∙ none-replied refusal.Ended (length units);
+        tells = ap eventsHeard (a .hears) ∙ none-told refusal.Ended (length units);
       }
 
   -- a silent turn: the loader has ended, so nothing is heard

@@ -1,6 +1,6 @@
 -- Words one after the other, as units. The units of one word do what the word does; so do those of some words of which each but the last is taken in silence;
 -- and where the last is refused, what comes after it is absorbed.
-use Prim.Native.Nat.{ℕ, zero, suc, _^_, _<_}
+use Prim.Native.Nat.{ℕ, _^_, _<_}
 use mathlib.Core.Bool.{true, false, true≢false}
 use mathlib.Core.List.{List, [], _∷_, _++_, append-assoc, append-nil}
 use mathlib.Core.Logic.{_≢_}
@@ -11,7 +11,6 @@ use borrow.Author.Tests.{eqb-true, eqb-false}
 use Rattle.words.proofs.Choice.{by-test}
 use Rattle.windows.specs.rules.Window.{sumOf}
 use Rattle.opcodes.specs.rules.Answers.{codeOf, told}
-use Rattle.opcodes.specs.declared.Event.{Event}
 use Rattle.opcodes.specs.declared.Event.the-variants.{Nothing}
 use Rattle.opcodes.specs.declared.Refusal.the-variants as refusal
 use Rattle.machine_answers.specs.rules.Answers.{WordOutcome, quiet, _leaving_}
@@ -26,22 +25,11 @@ use Rattle.sent.specs.rules.Feeding.{State, Heard, fed, answers, replied, event
 use Rattle.sent.specs.claims.Lift.{atWord, refusedBy, heardWord, Ready}
 use Rattle.sent.specs.declared.Bus.{Bus}
 use Rattle.sent.specs.declared.Bus.the-variants.{Bytes, Halves}
-use Rattle.sent.proofs.Feeding.{fed-append, answers-append}
+use Rattle.sent.proofs.Feeding.{fed-append, answers-append, replied-append, events-append, none-replied, none-told}
 use Rattle.sent.proofs.Lift.{units-are-the-word, absorbed}
 use Rattle.law_line.proofs.Stretch.{AllSmall}
 
--- replies and events of two stretches
-replied-append : (hs gs : List Heard) → replied (hs ++ gs) ≡ replied hs ++ replied gs
-unfolding replied
-replied-append [] gs = refl
-replied-append (h ∷ hs) gs = ap (λ (l : List ℕ). sentBytes (h .reply) ++ l) (replied-append hs gs) ∙ sym (append-assoc (sentBytes (h .reply)) _ _)
-
-events-append : (hs gs : List Heard) → eventsHeard (hs ++ gs) ≡ eventsHeard hs ++ eventsHeard gs
-unfolding eventsHeard
-events-append [] gs = refl
-events-append (h ∷ hs) gs = ap (λ (l : List Event). told (h .event) ++ l) (events-append hs gs) ∙ sym (append-assoc (told (h .event)) _ _)
-
--- those of a word, and of units that an ended session absorbs
+-- replies and events of a word
 word-replied : (bus : Bus) (t : Taken) → replied (heardWord bus t) ≡ sentBytes (t .reply)
 unfolding replied
 word-replied Bytes t = append-nil (sentBytes (t .reply))
@@ -51,16 +39,6 @@ word-told : (bus : Bus) (t : Taken) → eventsHeard (heardWord bus t) ≡ told (
 unfolding eventsHeard
 word-told Bytes t = append-nil (told (t .event))
 word-told Halves t = append-nil (told (t .event))
-
-none-replied : (n : ℕ) → replied (replicate n (refusedBy refusal.Ended)) ≡ []
-unfolding replied
-none-replied zero = refl
-none-replied (suc n) = none-replied n
-
-none-told : (n : ℕ) → eventsHeard (replicate n (refusedBy refusal.Ended)) ≡ []
-unfolding eventsHeard
-none-told zero = refl
-none-told (suc n) = none-told n
 
 -- units that do what a word outcome is: its core, its memory, its reply and its event, and the next word begins where it goes on
 pub record Comes (bus : Bus) (x : State) (units : List ℕ) (o : WordOutcome) : Type 0 where
@@ -129,9 +107,9 @@ absorbs {bus} {x} {us} {o} c over vs =
       memory = ap (λ (y : State). y .memory) leads ∙ c .memory;
       next = λ e still. absurd (true≢false (sym over ∙ still));
       replies =
-          ap replied hears ∙ replied-append _ _ ∙ ap₂ _++_ (c .replies) (none-replied (length vs)) ∙ append-nil _;
+          ap replied hears ∙ replied-append _ _ ∙ ap₂ _++_ (c .replies) (none-replied refusal.Ended (length vs)) ∙ append-nil _;
       tells =
-          ap eventsHeard hears ∙ events-append _ _ ∙ ap₂ _++_ (c .tells) (none-told (length vs)) ∙ append-nil _;
+          ap eventsHeard hears ∙ events-append _ _ ∙ ap₂ _++_ (c .tells) (none-told refusal.Ended (length vs)) ∙ append-nil _;
     }
 
 -- what holds of a loader that is lent its memory and has begun, whatever the words: a word that is refused ends it, and says nothing

@@ -6,13 +6,13 @@ use mathlib.Core.List.{List, [], _∷_}
 use mathlib.Core.Logic.{_≢_}
 use mathlib.Core.Path.{_≡_, refl, sym, ap, subst, _∙_}
 use lib.Dec.{eqb, leb}
-use borrow.Author.Tests.{ne-eqb}
+use borrow.Author.Tests.{eq-eqb, ne-eqb}
 use Rattle.words.specs.rules.Bytes.{wordAt}
 use Rattle.words.specs.rules.Choice.{pick}
 use Rattle.words.proofs.Choice.{of-choice}
 use Rattle.checksum.specs.rules.Checksum.{fedWords}
 use Rattle.windows.specs.declared.Window.{Window}
-use Rattle.opcodes.specs.rules.Answers.{codeOf}
+use Rattle.opcodes.specs.rules.Answers.{accepted, codeOf}
 use Rattle.opcodes.specs.rules.Opcodes.{lookedUp}
 use Rattle.opcodes.specs.declared.Command.{Command}
 use Rattle.opcodes.specs.declared.Command.the-variants as command
@@ -23,13 +23,13 @@ use Rattle.opcodes.specs.declared.Found.{Found}
 use Rattle.opcodes.specs.declared.Found.the-variants.{Known, Retired, Unknown}
 use Rattle.opcodes.specs.declared.Mode.the-variants.{Flash}
 use Rattle.opcodes.specs.declared.Refusal.the-variants as refusal
-use Rattle.ledger.specs.claims.Agreement.{KeepsNone}
-use Rattle.ledger.specs.rules.Totals.{standing, differs, isSpent, inFlash}
+use Rattle.ledger.specs.claims.Agreement.{KeepsNone, HasNumbers}
+use Rattle.ledger.specs.rules.Totals.{fromOne, standing, counted, differs, isSpent, inFlash}
 use Rattle.ledger.specs.declared.Happening.{Happening}
 use Rattle.ledger.specs.declared.Happening.the-variants as happened
 use Rattle.ledger.specs.declared.Standing.{Standing}
 use Rattle.ledger.specs.declared.Totals.{Totals}
-use Rattle.ledger.proofs.Agreement.{never-numbers}
+use Rattle.ledger.proofs.Agreement.{never-numbers, numbers-stay}
 use Rattle.reading.specs.rules.Reading.{present, wordsFrom, pastWords, argument, dataWords, readAs, readAt}
 use Rattle.reading.specs.declared.Read.{Read}
 use Rattle.reading.specs.declared.Read.the-variants as read
@@ -43,9 +43,11 @@ use Rattle.commands.specs.declared.Sought.{Sought}
 use Rattle.commands.specs.declared.Sought.the-variants as sought
 use Rattle.commands.specs.declared.Wrote.{Wrote}
 use Rattle.commands.proofs.Judging.{Passes, barred-passes, load-passes, fill-passes, setting-passes, entry-passes}
-use Rattle.flash_session.specs.rules.Opening.{openedBy}
-use Rattle.flash_laws.specs.claims.Reached.{Reached, opened, called}
+use Rattle.flash_session.specs.rules.Opening.{openedBy, numberingFrom}
+use Rattle.flash_laws.specs.claims.Reached.{Reached, opened, called, openingOf, numbering as isNumbering}
+use Rattle.flash_laws.proofs.Calls.{every-call}
 use Rattle.flash_session.specs.rules.Sessions.{CallOutcome, _leaving_, goTo, withTotals, fetching, stopped, acceptedAs, after}
+use Rattle.flash_commands.specs.claims.Ways.{happening, Way, forward, back, kept}
 use Rattle.flash_commands.specs.rules.Commands.{overflowing, outOfNumbers, fillJudgedAs, fillOf, settingOf, soughtAs, requested, entered, closed}
 use Rattle.flash.specs.rules.Step.{loadDone, loadAt, loadJudgedAs, loadOf, performed, followed, stepOf}
 use Rattle.flash_session.specs.declared.Called.{Called}
@@ -329,15 +331,48 @@ opened-none dialect count windows image limit =
     let None : Opened → Type 0 = λ o. KeepsNone (o .session .totals) in
     of-choice None _ (λ e. (refl, refl)) (λ e. of-choice None _ (λ e. (refl, refl)) (λ e. of-choice None _ (λ e. (refl, refl)) (λ e. (refl, refl))))
 
-reached-none : {s : Session} → Reached s → KeepsNone (s .totals)
-reached-none (opened dialect count windows image limit) = opened-none dialect count windows image limit
-reached-none (called {s} lent reached) = none-stays s (lent .memory) (lent .image) (reached-none reached)
+reached-none : {s : Session} (reached : Reached s) → isNumbering reached ≡ false → KeepsNone (s .totals)
+unfolding pick
+reached-none (opened true dialect count windows image limit) e = absurd (true≢false e)
+reached-none (opened false dialect count windows image limit) e = opened-none dialect count windows image limit
+reached-none (called {s} lent reached) e = none-stays s (lent .memory) (lent .image) (reached-none reached e)
+
+-- a session that has them goes on so
+happens-some : (dialect : Dialect) (t : Totals) (h : Happening) → HasNumbers t → HasNumbers (inFlash dialect t h)
+happens-some dialect t (happened.Section size) some = numbers-stay .numbering (counted dialect t size) (numbers-stay .counting dialect t size some)
+happens-some dialect t happened.Setting some = numbers-stay .numbering t some
+happens-some dialect t happened.Enable some = numbers-stay .turning t command.Enable some
+happens-some dialect t happened.Passed some = numbers-stay .turning t command.Enable some
+happens-some dialect t happened.Retried some = numbers-stay .turning t command.StartOver some
+happens-some dialect t happened.Other some = some
+
+way-some : {s : Session} {image : List ℕ} {a : Called} → HasNumbers (s .totals) → Way s image a → HasNumbers (a .session .totals)
+way-some {s} {image} {a} some (forward f) =
+    subst HasNumbers (sym (f .totals)) (happens-some (s .dialect) (s .totals) (happening (f .command) (argument image (s .offset) 1)) some)
+way-some {s} {image} {a} some (back b) = subst HasNumbers (sym (b .totals)) (happens-some (s .dialect) (s .totals) happened.Retried some)
+way-some {s} {image} {a} some (kept k) = subst HasNumbers (sym (k .totals)) some
+
+abbrev SomeIf : Opened → Type 0
+SomeIf o = o .refusal ≡ refusal.None → HasNumbers (o .session .totals)
+
+numbering-some : (o : Opened) → SomeIf (numberingFrom o)
+unfolding numberingFrom
+numbering-some o =
+    of-choice SomeIf (accepted (o .refusal)) {a = record { refusal = o .refusal; session = withTotals (o .session) (fromOne (o .session .totals)) }} {b = o}
+    (λ h e. numbers-stay .opening (o .session .totals)) (λ stopped e. absurd (false≢true (sym stopped ∙ eq-eqb _ _ (ap codeOf e))))
+
+reached-some : {s : Session} (reached : Reached s) → isNumbering reached ≡ true → openingOf reached .refusal ≡ refusal.None → HasNumbers (s .totals)
+unfolding pick
+reached-some (opened true dialect count windows image limit) e sound = numbering-some (openedBy dialect count windows image limit) sound
+reached-some (opened false dialect count windows image limit) e sound = absurd (false≢true e)
+reached-some (called {s} lent reached) e sound = way-some (reached-some reached e sound) (every-call s (lent .memory) (lent .image) .way)
 
 pub in-flash : InFlash
 in-flash =
     record {
-      none = λ s reached. reached-none reached;
-      never = λ s m image reached. none-never s m image (reached-none reached);
+      none = λ s reached e. reached-none reached e;
+      never = λ s m image reached e. none-never s m image (reached-none reached e);
+      some = λ s reached e sound. reached-some reached e sound;
       same = step-same;
       spent = step-spent;
       only = step-only;

@@ -57,9 +57,10 @@ use Rattle.machine_answers.specs.declared.Phase.{Phase}
 use Rattle.machine_answers.specs.declared.Phase.the-variants as phase
 use Rattle.sent.specs.declared.Session.{Session}
 use Rattle.machine_answers.specs.declared.Taken.{Taken}
+use Rattle.sent_laws.specs.claims.Reached.{Reached, opened, stepped, numbering as isNumbering}
 use Rattle.law_numbering.specs.claims.LeftOut.{unnumbered, byAny, takes}
 use Rattle.law_numbering.specs.claims.OnLine.{plain, plainly, plainOutcome, plainSession, plainUnit, plainState, takesAt, takesIn, OutOfNumbers}
-use Rattle.law_numbering.specs.claims.OnLine.{NoneSpent, ButNumbers, opened, OnLine}
+use Rattle.law_numbering.specs.claims.OnLine.{NoneSpent, ButNumbers, OnLine}
 use Rattle.law_numbering.proofs.Common.{none-left, passes-alike, differs-alike, counted-alike, numbered-alike, turned-alike, bytes-alike, setting-alike}
 use Rattle.law_numbering.proofs.Common.{Other, other, each-other, none-not}
 
@@ -424,25 +425,21 @@ none-stays bus x u none =
       sym (ap (λ (y : State). totals y .back) there),
     )
 
-fed-none : (bus : Bus) (units : List ℕ) (x : State) → KeepsNone (totals x) → KeepsNone (totals (fed bus x units))
-unfolding fed
-fed-none bus [] x none = none
-fed-none bus (u ∷ us) x none = fed-none bus us (next bus x u) (none-stays bus x u none)
-
-fed-never : (bus : Bus) (units : List ℕ) (x : State) → KeepsNone (totals x) → NoneSpent bus x units
-unfolding NoneSpent
-fed-never bus [] x none = tt
-fed-never bus (u ∷ us) x none = (none-never bus x u none, fed-never bus us (next bus x u) (none-stays bus x u none))
-
-opened-none : (bus : Bus) (dialect : Dialect) (count : ℕ) (windows : List Window) (m : List ℕ) → KeepsNone (totals (opened bus dialect count windows m))
+opened-none : (bus : Bus) (dialect : Dialect) (count : ℕ) (windows : List Window) → KeepsNone (openedBy bus dialect count windows .session .core .tally .totals)
 unfolding openedBy
-opened-none bus dialect count windows m = of-choice (λ (o : Opened). KeepsNone (o .session .core .tally .totals)) _ (λ e. (refl, refl)) (λ e. (refl, refl))
+opened-none bus dialect count windows = of-choice (λ (o : Opened). KeepsNone (o .session .core .tally .totals)) _ (λ e. (refl, refl)) (λ e. (refl, refl))
+
+reached-none : {bus : Bus} {s : Session} (reached : Reached bus s) → isNumbering reached ≡ false → KeepsNone (s .core .tally .totals)
+unfolding pick
+reached-none (opened true dialect count windows) e = absurd (true≢false e)
+reached-none {bus} (opened false dialect count windows) e = opened-none bus dialect count windows
+reached-none {bus} (stepped {s} m u before) e = none-stays bus (record { session = s; memory = m }) u (reached-none before e)
 
 pub on-line : OnLine
 on-line =
     record {
-      none = λ bus dialect count windows m units. fed-none bus units (opened bus dialect count windows m) (opened-none bus dialect count windows m);
-      never = λ bus dialect count windows m units. fed-never bus units (opened bus dialect count windows m) (opened-none bus dialect count windows m);
+      none = λ bus s reached e. reached-none reached e;
+      never = λ bus s m u reached e. none-never bus (record { session = s; memory = m }) u (reached-none reached e);
       word = word-same;
       unit = unit-same;
       units = λ bus x units n. units-same bus units x n;

@@ -257,5 +257,6 @@ retries-leave-no-entry bus x a c cs =
 
 -- from an opening on
 pub entries-since-opening : EntriesSinceOpening
-entries-since-opening bus x a c cs just-after other accepted covers =
-    retries-leave-no-entry bus x a c cs (record { begins = beginnings bus .begins x just-after; not-alone = other; accepted = accepted; covered = covers })
+entries-since-opening bus x a c cs just-after whole other accepted covers =
+    retries-leave-no-entry bus x a c cs
+    (record { begins = beginnings bus .begins x just-after whole; not-alone = other; accepted = accepted; covered = covers })

@@ -34,7 +34,7 @@ use Rattle.law_retries.specs.claims.Example.{startTo, start}
 use Rattle.law_retries.specs.claims.Pieces.{allWords, AllSendable, effectOf, anyWrites}
 use Rattle.law_retries.specs.claims.Retries.{after, Begins, NotAlone, attemptWords, Accepted, Retried}
 use Rattle.law_retries.proofs.Beginnings.{beginnings}
-use Rattle.law_retries.proofs.Instance.{start-after}
+use Rattle.law_retries.proofs.Instance.{start-after, start-whole}
 use Rattle.bit_watch.specs.rules.Watched.{entriesAfter}
 use Rattle.law_retries.specs.claims.EntryExample.{chosen, none, entryOf, swapped, settingsFrom, meant, missing, NumbersAgain, KeepsItsNumber}
 use Rattle.law_retries.proofs.Entries.{retries-leave-no-entry}
@@ -89,7 +89,7 @@ settings-sendable field field< = (
 )
 
 begins : (bus : Bus) (dialect : Dialect) → Begins (start bus dialect)
-begins bus dialect = beginnings bus .begins (start bus dialect) (start-after true bus dialect)
+begins bus dialect = beginnings bus .begins (start bus dialect) (start-after true bus dialect) (start-whole true bus dialect)
 
 -- its first word is that of a setting
 not-alone : (bus : Bus) (dialect : Dialect) → NotAlone (start bus dialect) (attemptWords swapped)

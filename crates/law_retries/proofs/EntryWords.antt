@@ -59,7 +59,8 @@ use Rattle.sent.proofs.Feeding.{fed-append, units-append}
 use Rattle.sent.proofs.Gathering.{holding, bytes-again, halves-again, begins-word, inside-word}
 use Rattle.machine.proofs.Laws.{data-step}
 use Rattle.sent.proofs.Lift.{accepted-goes}
-use Rattle.law_retries.specs.claims.Pieces.{Piece, load, fill, setting, wordsOf, AreWords, Sendable, judgedOf, loadOpcode, fillOpcode, settingOpcode}
+use Rattle.sent_laws.specs.claims.Lines.{AreWords}
+use Rattle.law_retries.specs.claims.Pieces.{Piece, load, fill, setting, wordsOf, Sendable, judgedOf, loadOpcode, fillOpcode, settingOpcode}
 use Rattle.law_retries.proofs.Taking.{writeOf, Room, tallyOf, memoryOf, running, awaiting, accepted, Apart, taken, load-apart, fill-apart, setting-apart}
 use Rattle.law_retries.proofs.Taking.{load-row, fill-row, setting-row, begun-ready, opcode-ready, length-loaded}
 use Rattle.bit_watch.specs.rules.Watched.{unitEntries, entriesAfter}

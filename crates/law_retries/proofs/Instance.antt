@@ -2,7 +2,7 @@
 use Prim.Native.Nat.{ℕ, zero, suc, _<_, _^_}
 use mathlib.Core.Bool.{Bool, true, false, _&&_, _||_, true≢false, false≢true}
 use mathlib.Core.List.{List, [], _∷_, _++_, map}
-use mathlib.Core.Path.{_≡_, refl, sym, ap, _∙_}
+use mathlib.Core.Path.{_≡_, refl, sym, ap, subst, _∙_}
 use lib.Dec.{eqb, ltb, lit<}
 use lib.ListN.{length, getD, replicate}
 use borrow.Author.Tests.{eqb-false, ltb-true}
@@ -25,7 +25,7 @@ use Rattle.ledger.specs.rules.Totals.{isPast, following}
 use Rattle.commands.specs.rules.Commands.{multiple, rangeJudged, loadJudged, unitOf, unitsJudged, fieldShape, shapeOf, tooWide, settingDone, settingMemory}
 use Rattle.stores.specs.rules.Stores.{loaded}
 use Rattle.sent.specs.rules.Bus.{startUnit, allUnits, pushed}
-use Rattle.sent.specs.rules.Feeding.{State, Heard, checksum, totals, heard, fed, answers, NoneRefused}
+use Rattle.sent.specs.rules.Feeding.{State, Heard, checksum, totals, next, heard, fed, answers, NoneRefused}
 use Rattle.words.specs.rules.Bytes.{AreBytes}
 use Rattle.sent.specs.rules.Line.{carried, isStart, unitStep}
 use Rattle.machine_answers.specs.rules.Answers.{after as afterCommand}
@@ -37,12 +37,14 @@ use Rattle.sent.specs.rules.Line.{startAnswer}
 use Rattle.sent.specs.declared.Bus.{Bus}
 use Rattle.sent.specs.declared.Bus.the-variants.{Bytes, Halves}
 use Rattle.sent.proofs.Feeding.{none-refused-by}
+use Rattle.sent_laws.specs.claims.Reached.{openedTo, Reached, opened, stepped, fedReached}
 use Rattle.law_retries.specs.claims.Example.{windows, before, startedTo, startTo, start, sent, abandoned, repeated, oneLoad, fourth, tried, meant}
 use Rattle.law_retries.specs.claims.Example.{Worked, twice, WorkedTwice, missing}
 use Rattle.law_retries.specs.claims.Example.{OneBitMissed, middle, nothing, InTheMiddle, requested, StartOverAlone, unmarked, NotLevel, setOnce}
 use Rattle.law_retries.specs.claims.Example.{NumberNotLevel, started, NothingFollows, shorter, short, MemoryTooShort}
+use Rattle.law_retries.specs.claims.Example.{sinceOpening, elsewhere, LentOtherwise}
 use Rattle.law_retries.specs.claims.Pieces.{allWords, AllSendable, effectOf, anyWrites}
-use Rattle.law_retries.specs.claims.Retries.{after, Awaits, sinceOpening, Reached, Idle, AtStart, JustAfter, after-start, after-enable, attemptWords}
+use Rattle.law_retries.specs.claims.Retries.{after, Awaits, LentWhole, Idle, AtStart, JustAfter, after-start, attemptWords}
 use Rattle.law_retries.specs.claims.Retries.{attemptsWords, attemptsPieces, NotAlone, Retried}
 use Rattle.law_retries.proofs.Beginnings.{beginnings}
 use Rattle.law_retries.proofs.Retries.{retries-leave-no-trace, many-retries-leave-no-trace}
@@ -95,8 +97,10 @@ no-more false false false = refl
 
 -- all that is computed of the instance
 record Computed (numbers : Bool) (bus : Bus) (dialect : Dialect) : Type 0 where
-  answered : heard bus (sinceOpening numbers bus dialect 1 windows before []) (startUnit bus) .reply ≡ startAnswer bus
+  answered : heard bus (sinceOpening numbers bus dialect before []) (startUnit bus) .reply ≡ startAnswer bus
   idle : Idle (startedTo numbers bus dialect)
+  started-memory : startedTo numbers bus dialect .memory ≡ before
+  started-map : sumOf (startedTo numbers bus dialect .session .core .windows) ≡ 8
   refused-tried : refusals bus (startTo numbers bus dialect) (attemptWords abandoned) ≡ quiet bus (attemptWords abandoned)
   after-tried : refusals bus (after bus (startTo numbers bus dialect) (attemptWords abandoned)) (allWords repeated) ≡ quiet bus (allWords repeated)
   attempt-bits : (p : ℕ) → anyWrites (startTo numbers bus dialect .session .core .windows) (abandoned .pieces) p ≡ bitsOnce p
@@ -107,6 +111,8 @@ record Computed (numbers : Bool) (bus : Bus) (dialect : Dialect) : Type 0 where
   counted : totals (after bus (startTo numbers bus dialect) (allWords repeated)) .now ≡ oneLoad dialect
   numbered : totals (after bus (startTo numbers bus dialect) (allWords repeated)) .next ≡ fourth numbers
   unasked : totals (startTo numbers bus dialect) .asked ≡ false
+  start-map : sumOf (startTo numbers bus dialect .session .core .windows) ≡ 8
+  untouched : startTo numbers bus dialect .memory ≡ before
 
 computed : (numbers : Bool) (bus : Bus) (dialect : Dialect) → Computed numbers bus dialect
 unfolding bit join withField within byte number bytesAt put fits fieldFits fieldWritten pick feeding.shifted feeding.fedBit feeding.fed
@@ -262,27 +268,34 @@ against = record {
 }
 
 -- units lead there from an opening, and the attempts begin just after the start unit and just after an Enable
-reached : (numbers : Bool) (bus : Bus) (dialect : Dialect) (m units : List ℕ) → allSmall m ≡ true
-    → Reached bus (sinceOpening numbers bus dialect 1 windows m units)
-reached numbers bus dialect m units small =
-    record {
-      numbers = numbers;
-      dialect = dialect;
-      count = 1;
-      windows = windows;
-      memory = m;
-      sent = units;
-      bytes = bytes-by m small;
-      leads = refl;
-    }
+reached : (numbers : Bool) (bus : Bus) (dialect : Dialect) (m units : List ℕ) → Reached bus (sinceOpening numbers bus dialect m units .session)
+reached numbers bus dialect m units =
+    fedReached bus (record { session = openedTo numbers bus dialect 1 windows .session; memory = m }) units (opened numbers dialect 1 windows)
 
-started-after : (bus : Bus) (dialect : Dialect) → JustAfter bus (started bus dialect)
-unfolding startedTo fed allSmall
-started-after bus dialect = after-start (startUnit bus) (reached true bus dialect before [] refl) (computed true bus dialect .answered)
+started-after : (bus : Bus) (dialect : Dialect) → JustAfter bus (started bus dialect .session)
+unfolding startedTo fed
+started-after bus dialect = after-start before (startUnit bus) (opened true dialect 1 windows) (computed true bus dialect .answered)
 
-pub start-after : (numbers : Bool) (bus : Bus) (dialect : Dialect) → JustAfter bus (startTo numbers bus dialect)
-unfolding startTo startedTo fed allSmall
-start-after numbers bus dialect = after-enable (reached numbers bus dialect before (startUnit bus ∷ []) refl) (computed numbers bus dialect .idle)
+-- on eight bytes
+before-bytes : AreBytes before
+unfolding allSmall
+before-bytes = bytes-by before refl
+
+eight-whole : (x : State) → x .memory ≡ before → sumOf (x .session .core .windows) ≡ 8 → LentWhole x
+eight-whole x same long = record { lent = eight (ap length same) long; bytes = subst AreBytes (sym same) before-bytes }
+
+started-whole : (numbers : Bool) (bus : Bus) (dialect : Dialect) → LentWhole (startedTo numbers bus dialect)
+started-whole numbers bus dialect =
+    eight-whole (startedTo numbers bus dialect) (computed numbers bus dialect .started-memory) (computed numbers bus dialect .started-map)
+
+pub start-whole : (numbers : Bool) (bus : Bus) (dialect : Dialect) → LentWhole (startTo numbers bus dialect)
+start-whole numbers bus dialect = eight-whole (startTo numbers bus dialect) (computed numbers bus dialect .untouched) (computed numbers bus dialect .start-map)
+
+pub start-after : (numbers : Bool) (bus : Bus) (dialect : Dialect) → JustAfter bus (startTo numbers bus dialect .session)
+unfolding startTo startedTo fed
+start-after numbers bus dialect =
+    beginnings bus .sent-whole (startedTo numbers bus dialect) (reached numbers bus dialect before (startUnit bus ∷ [])) (started-whole numbers bus dialect)
+    (computed numbers bus dialect .idle) .0
 
 -- the attempts, and what follows
 abandoned-sendable : AllSendable (abandoned .pieces)
@@ -309,7 +322,7 @@ worked numbers bus dialect =
     let by = computed numbers bus dialect in
     let retried : Retried bus x (attemptWords abandoned) (abandoned .pieces) repeated =
     record {
-      begins = beginnings bus .begins x (start-after numbers bus dialect);
+      begins = beginnings bus .begins x (start-after numbers bus dialect) (start-whole numbers bus dialect);
       not-alone = begins-unasked numbers bus dialect (attemptWords abandoned);
       accepted = record {
         sendable = (abandoned-sendable, repeat-sendable 0x00060403 (lit< tt));
@@ -321,6 +334,7 @@ worked numbers bus dialect =
     let no-trace = retries-leave-no-trace bus x abandoned _ _ retried in
     record {
       just-after = start-after numbers bus dialect;
+      whole = start-whole numbers bus dialect;
       retried = retried;
       no-trace = no-trace;
       after-attempt = by .after-attempt;
@@ -338,7 +352,7 @@ worked-twice bus dialect =
     let again = computed-twice bus dialect in
     let retried : Retried bus x (attemptsWords twice) (attemptsPieces twice) repeated =
     record {
-      begins = beginnings bus .begins x (start-after true bus dialect);
+      begins = beginnings bus .begins x (start-after true bus dialect) (start-whole true bus dialect);
       not-alone = begins-unasked true bus dialect (attemptsWords twice);
       accepted = record {
         sendable = (twice-sendable, repeat-sendable 0x00060403 (lit< tt));
@@ -361,7 +375,7 @@ worked-twice bus dialect =
 pub one-bit-missed : OneBitMissed
 one-bit-missed =
     record {
-      begins = beginnings Bytes .begins (start Bytes Am17xx) (start-after true Bytes Am17xx);
+      begins = beginnings Bytes .begins (start Bytes Am17xx) (start-after true Bytes Am17xx) (start-whole true Bytes Am17xx);
       not-alone = begins-unasked true Bytes Am17xx (attemptWords abandoned);
       accepted = record {
         sendable = (abandoned-sendable, repeat-sendable 0x00050403 (lit< tt));
@@ -447,7 +461,7 @@ unfolding AllSendable allWords NoneRefused someWrites
 nothing-follows =
     record {
       just-after = started-after Bytes Am17xx;
-      begins = beginnings Bytes .begins (started Bytes Am17xx) (started-after Bytes Am17xx);
+      begins = beginnings Bytes .begins (started Bytes Am17xx) (started-after Bytes Am17xx) (started-whole true Bytes Am17xx);
       not-alone = λ stands. absurd (true≢false (sym stands ∙ against .settled-started));
       accepted = record {
         sendable = (tt, tt);
@@ -462,5 +476,40 @@ nothing-follows =
 
 -- the length of memory
 pub memory-too-short : MemoryTooShort
-unfolding short allSmall
-memory-too-short = record { reached = reached true Bytes Am17xx shorter [] refl; at-start = against .short-at-start; refused = against .short-refused }
+unfolding short fed
+memory-too-short = record { reached = opened true Am17xx 1 windows; at-start = against .short-at-start; refused = against .short-refused }
+
+-- the memory before the attempt: the start unit is refused, then answered on zeros
+unfoldable answeredThere : State
+answeredThere = fed Bytes (record { session = next Bytes short (startUnit Bytes) .session; memory = replicate 8 0 }) (startUnit Bytes ∷ [])
+
+answered-reached : Reached Bytes (answeredThere .session)
+unfolding answeredThere short fed
+answered-reached =
+    fedReached Bytes (record { session = next Bytes short (startUnit Bytes) .session; memory = replicate 8 0 }) (startUnit Bytes ∷ [])
+    (stepped shorter (startUnit Bytes) (opened true Am17xx 1 windows))
+
+record Elsewhere : Type 0 where
+  idle : Idle answeredThere
+  whole : LentWhole answeredThere
+  same-session : elsewhere .session ≡ start Bytes Am17xx .session
+  other-memory : elsewhere .memory ≡ replicate 8 0
+
+elsewhere-computed : Elsewhere
+unfolding byte pick sumOf soundWindow allSound rising goodMap keptOf rows rowServes foundIn lookedUp pushed carried isStart unitStep acknowledging wordStep
+    openedBy numberingFrom startTo fed short elsewhere answeredThere allSmall
+elsewhere-computed = record {
+  idle = record { running = refl; started = refl; fresh = refl; opcode = refl };
+  whole = record { lent = eight refl refl; bytes = bytes-by (replicate 8 0) refl };
+  same-session = refl;
+  other-memory = refl;
+}
+
+pub lent-otherwise : LentOtherwise
+unfolding elsewhere answeredThere fed
+lent-otherwise =
+    record {
+      just-after = beginnings Bytes .sent-whole answeredThere answered-reached (elsewhere-computed .whole) (elsewhere-computed .idle) .0;
+      same-session = elsewhere-computed .same-session;
+      other-memory = elsewhere-computed .other-memory;
+    }

@@ -5,7 +5,6 @@ pub mod Entries
 pub mod EntryInstance
 pub mod EntryWords
 pub mod Instance
-pub mod Reached
 pub mod Retries
 pub mod Several
 pub mod Taking

@@ -260,5 +260,5 @@ retries-leave-no-trace bus x a c cs =
 
 -- from an opening on
 pub retries-since-opening : RetriesSinceOpening
-retries-since-opening bus x a c cs after other accepted covered =
-    retries-leave-no-trace bus x a c cs (record { begins = beginnings bus .begins x after; not-alone = other; accepted = accepted; covered = covered })
+retries-since-opening bus x a c cs after whole other accepted covered =
+    retries-leave-no-trace bus x a c cs (record { begins = beginnings bus .begins x after whole; not-alone = other; accepted = accepted; covered = covered })

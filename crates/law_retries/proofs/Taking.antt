@@ -43,7 +43,7 @@ use Rattle.machine_answers.specs.rules.Answers.{WordOutcome, tallied, quiet, _l
 use Rattle.machine_answers.specs.rules.Counts.{overflowing, outOfNumbers}
 use Rattle.machine_loads.specs.rules.Loads.{dataBytes, awaited, loadBegun}
 use Rattle.machine_commands.specs.rules.Performed.{noneKept, performed}
-use Rattle.machine.specs.rules.Machine.{keeping, begun, acknowledging, opening}
+use Rattle.machine.specs.rules.Machine.{keeping, begun, acknowledging, opening, wordStep}
 use Rattle.machine_answers.specs.rules.Replies.{silence, oneWord, wordThen, acknowledged}
 use Rattle.machine.specs.claims.Words.{afterWords, asking, doneAtLast}
 use Rattle.sent.specs.declared.Bus.{Bus}
@@ -59,7 +59,8 @@ use Rattle.sent.proofs.Feeding.{none-refused-append, Goes, nothing-goes, _then_
 use Rattle.machine_loads.proofs.Laws.{data-length}
 use Rattle.machine.proofs.Laws.{unwritten, same-words, data-step, load-in-pieces}
 use Rattle.sent.proofs.Lift.{accepted-goes, word-accepted}
-use Rattle.law_retries.specs.claims.Pieces.{Piece, load, fill, setting, wordsOf, bytesLoaded, AreWords, Sendable, judgedOf, loadOpcode, fillOpcode}
+use Rattle.sent_laws.specs.claims.Lines.{AreWords}
+use Rattle.law_retries.specs.claims.Pieces.{Piece, load, fill, setting, wordsOf, bytesLoaded, Sendable, judgedOf, loadOpcode, fillOpcode}
 use Rattle.law_retries.specs.claims.Pieces.{settingOpcode, enableOpcode, requestOpcode, startOverOpcode}
 
 -- a running session's core
@@ -176,7 +177,7 @@ unfolding lookedUp foundIn rows rowServes pick
 start-over-row Am17xx = refl
 start-over-row Dm648 = refl
 
-no-start : (bus : Bus) {opcode : ℕ} → Apart opcode → firstUnit bus opcode ≢ startUnit bus
+pub no-start : (bus : Bus) {opcode : ℕ} → Apart opcode → firstUnit bus opcode ≢ startUnit bus
 no-start Bytes apart = eqb-false _ _ (apart .no-byte)
 no-start Halves apart = eqb-false _ _ (apart .no-half)
 
@@ -254,13 +255,18 @@ module _ (bus : Bus) (windows : List Window) (dialect : Dialect) (on : Bool) whe
     opcode-ready opcode apart = record { running = refl; lent = lent; small = apart .small; plain = λ e. no-start bus apart }
 
     -- one that has no words
+    pub opcode-word : (opcode : ℕ) (c : Command) → lookedUp opcode Sent dialect ≡ Known c 0
+        → {reply : Reply} {event : Event} {k : Core} {wrote : Wrote} {left : List ℕ}
+        → opening opcode (performed c (taken c) m noneKept 0) ≡ accepted reply event k wrote left
+        → wordStep (running windows dialect on begun tally phase.Opcode) m opcode ≡ accepted reply event k wrote left
+    unfolding afterWords
+    opcode-word opcode c known e = by-the-table .done _ m opcode c 0 [] refl known refl ∙ e
+
     pub opcode-goes : (opcode : ℕ) (c : Command) → Apart opcode → lookedUp opcode Sent dialect ≡ Known c 0
         → {reply : Reply} {event : Event} {k : Core} {wrote : Wrote} {left : List ℕ}
         → opening opcode (performed c (taken c) m noneKept 0) ≡ accepted reply event k wrote left
         → Goes bus (awaiting windows dialect on begun tally m) (unitsOf bus opcode) (atWord k left) (heardSaid bus reply event)
-    unfolding afterWords
-    opcode-goes opcode c apart known e =
-        accepted-goes bus _ m opcode (opcode-ready opcode apart) (by-the-table .done _ m opcode c 0 [] refl known refl ∙ e) refl
+    opcode-goes opcode c apart known e = accepted-goes bus _ m opcode (opcode-ready opcode apart) (opcode-word opcode c known e) refl
 
     -- one that has, up to the word that decides
     module _ (opcode : ℕ) (c : Command) (word : ℕ) (rest : List ℕ) (apart : Apart opcode) (known : lookedUp opcode Sent dialect ≡ Known c (suc (length rest)))

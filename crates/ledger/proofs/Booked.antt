@@ -14,7 +14,7 @@ use Rattle.opcodes.specs.declared.Command.the-variants as command
 use Rattle.opcodes.specs.declared.Dialect.{Dialect}
 use Rattle.opcodes.specs.declared.Dialect.the-variants.{Am17xx, Dm648}
 use Rattle.ledger.specs.rules.Totals.{wouldPass, firstSpent, isSpent, counted, following, numbered, settled, turned, inFlash}
-use Rattle.ledger.specs.claims.Account.{Act, section, load, piece, setting, other, Count, oneSection, oneNumber, Account, account, numbersTold}
+use Rattle.ledger.specs.claims.Account.{section, load, piece, setting, other, oneSection, oneNumber, Account, account, numbersTold}
 use Rattle.ledger.specs.claims.Booked.{standingOf, nextOf, totalsOf, Leads, byMark, opcodeAct, happenedAct, Room, AllBooked}
 use Rattle.ledger.specs.declared.Happening.{Happening}
 use Rattle.ledger.specs.declared.Happening.the-variants as happening

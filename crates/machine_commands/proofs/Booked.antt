@@ -10,7 +10,6 @@ use Rattle.words.specs.rules.Choice.{pick}
 use Rattle.words.proofs.Choice.{passed, of-choice}
 use Rattle.opcodes.specs.rules.Answers.{codeOf}
 use Rattle.opcodes.specs.declared.Command.the-variants as command
-use Rattle.opcodes.specs.declared.Command.{Command}
 use Rattle.opcodes.specs.declared.Event.{Event}
 use Rattle.opcodes.specs.declared.Refusal.{Refusal}
 use Rattle.opcodes.specs.declared.Refusal.the-variants as refusal
@@ -29,10 +28,9 @@ use Rattle.machine_answers.specs.rules.Answers.{after, entered}
 use Rattle.machine_answers.specs.rules.Counts.{countedOn, outOfNumbers, overflowing}
 use Rattle.machine_loads.specs.rules.Loads.{loadBegun}
 use Rattle.machine_loads.proofs.Granted.{Numbered, numbers, last-numbered, section-numbered, section-counts}
-use Rattle.machine_commands.specs.rules.Performed.{settingTotals, performed}
-use Rattle.machine_commands.specs.claims.Booked.{doneActs, CommandsBooked}
+use Rattle.machine_commands.specs.rules.Performed.{settingTotals}
+use Rattle.machine_commands.specs.claims.Booked.{CommandsBooked}
 use Rattle.machine_answers.specs.declared.Core.{Core}
-use Rattle.machine_answers.specs.declared.Kept.{Kept}
 use Rattle.machine_answers.specs.declared.Taken.{Taken}
 
 module _ (k : Core) (numbering : Bool) (a : Account) (here : k .tally .totals ≡ totalsOf (k .dialect) numbering a false) where

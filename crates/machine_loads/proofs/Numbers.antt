@@ -1,5 +1,5 @@
 -- A load that is accepted was granted and found a number, so the next number after it is one more than its own.
-use Prim.Native.Nat.{ℕ, _+_, _-_, _<_}
+use Prim.Native.Nat.{ℕ, _+_, _<_}
 use mathlib.Core.List.{List}
 use mathlib.Core.Path.{_≡_, refl, ap, _∙_}
 use native.Mathlib.Omega.{arith}
@@ -12,9 +12,9 @@ use Rattle.ledger.proofs.Laws.{numbers-on}
 use Rattle.commands.specs.rules.Commands.{loadJudged}
 use Rattle.commands.specs.declared.Judged.{Judged}
 use Rattle.commands.proofs.Judging.{load-passes}
-use Rattle.machine_loads.specs.rules.Loads.{loadBegun, loadTaken, dataTaken}
+use Rattle.machine_loads.specs.rules.Loads.{loadBegun, loadTaken}
 use Rattle.machine_loads.specs.claims.Numbers.{DataByTheLoad}
-use Rattle.machine_answers.specs.rules.Counts.{countedOn, outOfNumbers, overflowing}
+use Rattle.machine_answers.specs.rules.Counts.{outOfNumbers, overflowing}
 use Rattle.machine_answers.specs.declared.Core.{Core}
 use Rattle.machine_loads.proofs.Granted.{numbers, section-numbered, section-counts, load-not-refused}
 

@@ -1,11 +1,16 @@
 -- Units fed one after the other: what holds of two stretches, holds of both together, by induction over the first.
-use Prim.Native.Nat.{ℕ}
+use Prim.Native.Nat.{ℕ, zero, suc}
 use mathlib.Core.List.{List, [], _∷_, _++_, map, append-assoc}
 use mathlib.Core.Path.{_≡_, refl, sym, ap, subst, _∙_}
 use lib.ListN.{length, replicate}
+use Rattle.opcodes.specs.rules.Answers.{told}
+use Rattle.opcodes.specs.declared.Event.{Event}
+use Rattle.opcodes.specs.declared.Refusal.{Refusal}
 use Rattle.opcodes.specs.declared.Refusal.the-variants.{None}
+use Rattle.machine_answers.specs.rules.Replies.{sentBytes}
 use Rattle.sent.specs.rules.Bus.{unitsOf, allUnits}
-use Rattle.sent.specs.rules.Feeding.{State, Heard, next, heard, fed, answers, NoneRefused}
+use Rattle.sent.specs.rules.Feeding.{State, Heard, next, heard, fed, answers, replied, eventsHeard, NoneRefused}
+use Rattle.sent.specs.claims.Lift.{refusedBy}
 use Rattle.sent.specs.rules.Line.{UnitOutcome, unitStep}
 use Rattle.sent.specs.declared.Bus.{Bus}
 
@@ -34,6 +39,28 @@ module _ (bus : Bus) where
   unfolding NoneRefused answers
   none-refused-by x [] e = tt
   none-refused-by x (u ∷ us) e = (cc, none-refused-by (next bus x u) us (cc))
+
+-- replies and events of two stretches
+pub replied-append : (hs gs : List Heard) → replied (hs ++ gs) ≡ replied hs ++ replied gs
+unfolding replied
+replied-append [] gs = refl
+replied-append (h ∷ hs) gs = ap (λ (l : List ℕ). sentBytes (h .reply) ++ l) (replied-append hs gs) ∙ sym (append-assoc (sentBytes (h .reply)) _ _)
+
+pub events-append : (hs gs : List Heard) → eventsHeard (hs ++ gs) ≡ eventsHeard hs ++ eventsHeard gs
+unfolding eventsHeard
+events-append [] gs = refl
+events-append (h ∷ hs) gs = ap (λ (l : List Event). told (h .event) ++ l) (events-append hs gs) ∙ sym (append-assoc (told (h .event)) _ _)
+
+-- those of units that are all refused
+pub none-replied : (q : Refusal) (n : ℕ) → replied (replicate n (refusedBy q)) ≡ []
+unfolding replied
+none-replied q zero = refl
+none-replied q (suc n) = none-replied q n
+
+pub none-told : (q : Refusal) (n : ℕ) → eventsHeard (replicate n (refusedBy q)) ≡ []
+unfolding eventsHeard
+none-told q zero = refl
+none-told q (suc n) = none-told q n
 
 -- units lead from one state to another, and this is heard of them
 pub record Goes (bus : Bus) (x : State) (us : List ℕ) (y : State) (hs : List Heard) : Type 0 where

@@ -1,38 +1,40 @@
 -- The units of a word are the word. From a word's beginning all units but the last are gathered in silence, and the last hands the word to the word machine:
--- by the two buses up to there, and once for both from there. The rest goes word by word.
-use Prim.Native.Nat.{ℕ, zero, suc, _+_, _-_, _/_, _%_, _^_, _≤_, _<_}
-use mathlib.Core.Bool.{true, false, true≢false}
-use mathlib.Core.List.{List, [], _∷_, _++_, append-assoc}
-use mathlib.Core.Path.{_≡_, refl, sym, ap, ap₂, subst, subst₂, _∙_}
+-- by the two buses up to there, and once for both from there.
+use Prim.Native.Nat.{ℕ, _+_, _-_, _/_, _%_, _^_, _≤_, _<_}
+use mathlib.Core.Bool.{true, false}
+use mathlib.Core.List.{List, [], _∷_, _++_}
+use mathlib.Core.Logic.{_≢_}
+use mathlib.Core.Path.{_≡_, refl, ap, ap₂, subst, _∙_}
 use native.Mathlib.Omega.{arith}
-use lib.Dec.{eqb, lit<, lit≤}
+use lib.Dec.{lit<, lit≤}
 use lib.ListN.{length, getD, replicate}
-use borrow.Author.Tests.{eq-eqb, eqb-true, eqb-false}
+use borrow.Author.Tests.{eq-eqb}
 use Rattle.words.specs.rules.Bytes.{byte}
-use Rattle.words.proofs.Choice.{chosen, by-test, of-choice}
+use Rattle.words.proofs.Choice.{chosen, of-choice}
 use Rattle.windows.specs.rules.Window.{sumOf}
 use Rattle.windows.specs.declared.Window.{Window}
 use Rattle.opcodes.specs.rules.Answers.{codeOf}
 use Rattle.opcodes.specs.declared.Dialect.{Dialect}
+use Rattle.opcodes.specs.declared.Refusal.{Refusal}
 use Rattle.opcodes.specs.declared.Refusal.the-variants as refusal
-use Rattle.sent.specs.rules.Bus.{unitBits, unitsInWord, unitsOf, allUnits, firstUnit, pushed}
-use Rattle.sent.specs.rules.Feeding.{State, Heard, next, fed, answers, replied, NoneRefused}
-use Rattle.sent.specs.claims.Lift.{atWord, silent, refusedBy, heardWord, Plain, Ready, UnitsAreTheWord, Absorbed, Words, EitherLine, Lines}
-use Rattle.sent.specs.rules.Line.{UnitOutcome, carried, isStart, unitStep}
+use Rattle.sent.specs.rules.Bus.{unitBits, unitsInWord, unitsOf, firstUnit, pushed}
+use Rattle.sent.specs.rules.Feeding.{State, Heard, next, fed, answers, NoneRefused}
+use Rattle.sent.specs.claims.Lift.{atWord, silent, heardWord, Plain, Ready, UnitsAreTheWord, Absorbed, Lines}
+use Rattle.sent.specs.rules.Line.{UnitOutcome, plainly, carried, isStart, unitStep}
 use Rattle.machine_answers.specs.rules.Answers as machine
 use Rattle.machine.specs.rules.Machine.{wordStep}
 use Rattle.sent.specs.rules.Opening.{openedBy}
 use Rattle.sent.specs.rules.Line.{startAnswer}
-use Rattle.machine_answers.specs.rules.Replies.{sentBytes}
+use Rattle.machine_answers.specs.rules.Replies.{silence, sentBytes}
 use Rattle.sent.specs.declared.Bus.{Bus}
 use Rattle.sent.specs.declared.Bus.the-variants.{Bytes, Halves}
 use Rattle.machine_answers.specs.declared.Core.{Core}
 use Rattle.sent.specs.declared.Line.{Line}
 use Rattle.sent.specs.declared.Opened.{Opened}
 use Rattle.machine_answers.specs.declared.Taken.{Taken}
-use Rattle.sent.proofs.Cases.{unit-ended, unit-gathered, unit-whole}
+use Rattle.sent.proofs.Cases.{unit-ended, unit-memory, unit-gathered, unit-whole}
 use Rattle.machine.proofs.Every.{every-word}
-use Rattle.sent.proofs.Feeding.{fed-append, answers-append, Goes, _then_, unit-goes}
+use Rattle.sent.proofs.Feeding.{Goes, _then_, unit-goes}
 use Rattle.sent.proofs.Gathering.{holding, bytes-again, halves-again, begins-word, inside-word}
 
 -- all units of a word but the last are gathered, and the last makes the word
@@ -142,101 +144,27 @@ pub word-accepted : (bus : Bus) (k : Core) (m : List ℕ) (word : ℕ) → Ready
 word-accepted bus k m word ready n =
     last-none bus (wordStep k m word .answer) (subst AllNone (units-are-the-word bus k m word ready .hears) (none-heard bus (atWord k m) (unitsOf bus word) n))
 
--- an ended session
-pub absorbed : (bus : Bus) (x : State) (units : List ℕ) → x .session .core .ended ≡ true → Absorbed bus x units
+-- a session that refuses a unit and stays as it is, refuses them all
+refuses-all : (bus : Bus) (x : State) (q : Refusal) → ((u : ℕ) → unitStep bus (x .session) (x .memory) u ≡ plainly q silence (x .session) (x .memory))
+    → (units : List ℕ) → Absorbed bus x units q
 unfolding fed answers
-absorbed bus x [] over = record { stays = refl; hears = refl }
-absorbed bus x (u ∷ us) over =
-    let step = unit-ended bus (x .session) (x .memory) u over in
-    let same : next bus x u ≡ x = ap (λ (o : UnitOutcome). record { session = o .answer .session; memory = o .memory }) step in
-    let rest = absorbed bus x us over in
+refuses-all bus x q step [] = record { stays = refl; hears = refl }
+refuses-all bus x q step (u ∷ us) =
+    let same : next bus x u ≡ x = ap (λ (o : UnitOutcome). record { session = o .answer .session; memory = o .memory }) (step u) in
+    let rest = refuses-all bus x q step us in
     record {
       stays = ap (λ (y : State). fed bus y us) same ∙ rest .stays;
       hears = ap₂ _∷_
-          (ap (λ (o : UnitOutcome). record { refusal = o .answer .refusal; reply = o .answer .reply; event = o .answer .event }) step)
+          (ap (λ (o : UnitOutcome). record { refusal = o .answer .refusal; reply = o .answer .reply; event = o .answer .event }) (step u))
           (ap (λ (y : State). answers bus y us) same ∙ rest .hears);
     }
 
--- replies of two stretches, and of units that an ended session absorbs
-replied-append : (hs gs : List Heard) → replied (hs ++ gs) ≡ replied hs ++ replied gs
-unfolding replied
-replied-append [] gs = refl
-replied-append (h ∷ hs) gs = ap (λ (l : List ℕ). sentBytes (h .reply) ++ l) (replied-append hs gs) ∙ sym (append-assoc (sentBytes (h .reply)) _ _)
+pub absorbed : (bus : Bus) (x : State) (units : List ℕ) → x .session .core .ended ≡ true → Absorbed bus x units refusal.Ended
+absorbed bus x units over = refuses-all bus x refusal.Ended (λ u. unit-ended bus (x .session) (x .memory) u over) units
 
-none-replied : (n : ℕ) → replied (replicate n (refusedBy refusal.Ended)) ≡ []
-unfolding replied
-none-replied zero = refl
-none-replied (suc n) = none-replied n
-
--- two sessions with the same core, which is ended, and the same memory
-ended-either : (x y : State) (words : List ℕ) → x .session .core ≡ y .session .core → x .memory ≡ y .memory → x .session .core .ended ≡ true
-    → EitherLine x y words
-ended-either x y words core memory over =
-    let left = absorbed Bytes x (allUnits Bytes words) over in
-    let right = absorbed Halves y (allUnits Halves words) (sym (ap (λ (k : Core). k .ended) core) ∙ over) in
-    record {
-      same-core = ap (λ (z : State). z .session .core) (left .stays) ∙ core ∙ sym (ap (λ (z : State). z .session .core) (right .stays));
-      same-memory = ap (λ (z : State). z .memory) (left .stays) ∙ memory ∙ sym (ap (λ (z : State). z .memory) (right .stays));
-      same-replies =
-          ap replied (left .hears) ∙ none-replied (length (allUnits Bytes words))
-          ∙ sym (ap replied (right .hears) ∙ none-replied (length (allUnits Halves words)));
-    }
-
--- a word with the same reply on both lines, and those after it
-word-either : (x y : State) (word : ℕ) (words : List ℕ)
-    → replied (answers Bytes x (unitsOf Bytes word)) ≡ replied (answers Halves y (unitsOf Halves word))
-    → EitherLine (fed Bytes x (unitsOf Bytes word)) (fed Halves y (unitsOf Halves word)) words → EitherLine x y (word ∷ words)
-word-either x y word words reply rest =
-    let leads : (bus : Bus) (z : State) → fed bus z (allUnits bus (word ∷ words)) ≡ fed bus (fed bus z (unitsOf bus word)) (allUnits bus words) =
-    λ bus z. fed-append bus z (unitsOf bus word) (allUnits bus words) in
-    let says : (bus : Bus) (z : State) → replied (answers bus z (allUnits bus (word ∷ words)))
-    ≡ replied (answers bus z (unitsOf bus word)) ++ replied (answers bus (fed bus z (unitsOf bus word)) (allUnits bus words)) =
-    λ bus z. ap replied (answers-append bus z (unitsOf bus word) (allUnits bus words)) ∙ replied-append _ _ in
-    record {
-      same-core = ap (λ (z : State). z .session .core) (leads Bytes x) ∙ rest .same-core ∙ sym (ap (λ (z : State). z .session .core) (leads Halves y));
-      same-memory = ap (λ (z : State). z .memory) (leads Bytes x) ∙ rest .same-memory ∙ sym (ap (λ (z : State). z .memory) (leads Halves y));
-      same-replies = says Bytes x ∙ ap₂ _++_ reply (rest .same-replies) ∙ sym (says Halves y);
-    }
-
--- the last answer is the only one that is not silent, on either line
-same-word : (t : Taken) → replied (heardWord Bytes t) ≡ replied (heardWord Halves t)
-unfolding replied
-same-word t = refl
-
--- words for a core are words for one that has begun where it has
-plain-later : (bus : Bus) (k later : Core) (word : ℕ) → (k .begun ≡ true → later .begun ≡ true) → Plain bus k word → Plain bus later word
-plain-later bus k later word since plain e =
-    plain (by-test (k .begun) (λ t. absurd (true≢false (sym (since t) ∙ e))) (λ f. f))
-
-words-later : (k later : Core) (words : List ℕ) → (k .begun ≡ true → later .begun ≡ true) → Words k words → Words later words
-unfolding Words
-words-later k later [] since w = tt
-words-later k later (word ∷ words) since w =
-    (w .0, plain-later Bytes k later word since (w .1), plain-later Halves k later word since (w .2), words-later k later words since (w .3))
-
-words-either : (words : List ℕ) (k : Core) (m : List ℕ) → length m ≡ sumOf (k .windows) → Words k words → EitherLine (atWord k m) (atWord k m) words
-unfolding Words fed answers
-words-either [] k m lent w = record { same-core = refl; same-memory = refl; same-replies = refl }
-words-either (word ∷ words) k m lent w =
-    by-test (k .ended) (λ over. ended-either (atWord k m) (atWord k m) (word ∷ words) refl refl over)
-    (λ running.
-    let left = units-are-the-word Bytes k m word (record { running = running; lent = lent; small = w .0; plain = w .1 }) in
-    let right = units-are-the-word Halves k m word (record { running = running; lent = lent; small = w .0; plain = w .2 }) in
-    let every = every-word k m word in
-    let o = wordStep k m word in
-    let reply = ap replied (left .hears) ∙ same-word (o .answer) ∙ sym (ap replied (right .hears)) in
-    word-either (atWord k m) (atWord k m) word words reply
-    (by-test (eqb (codeOf (o .answer .refusal)) 0)
-    (λ e.
-    let accepted = eqb-true _ _ e in
-    let lent-still = every .same-length ∙ lent ∙ ap sumOf (sym (every .windows)) in
-    subst₂ (λ (x y : State). EitherLine x y words) (sym (left .accepted accepted)) (sym (right .accepted accepted))
-    (words-either words (o .answer .core) (o .memory) lent-still (words-later k (o .answer .core) words (every .begun) (w .3))))
-    (λ e.
-    let stopped = eqb-false _ _ e in
-    let l = left .refused stopped in
-    let r = right .refused stopped in
-    ended-either _ _ words (l .0 ∙ sym (r .0)) (l .2 ∙ sym (r .2)) (ap (λ (c : Core). c .ended) (l .0) ∙ l .1))))
+pub unlent : (bus : Bus) (x : State) (units : List ℕ) → x .session .core .ended ≡ false → length (x .memory) ≢ sumOf (x .session .core .windows)
+    → Absorbed bus x units refusal.Memory
+unlent bus x units running other = refuses-all bus x refusal.Memory (λ u. unit-memory bus (x .session) (x .memory) u running other) units
 
 -- a reply is whole units
 abbrev InUnits : Bus → UnitOutcome → Type 0
@@ -275,7 +203,7 @@ lines =
       lift = units-are-the-word;
       every = every-word;
       absorbs = absorbed;
-      either = λ k m words lent w. words-either words k m lent w;
+      unlent = unlent;
       whole-units = unit-whole-units;
       no-greeting = silent-opening;
     }

@@ -8,11 +8,9 @@ use lib.Dec.{ltb, eqb}
 use lib.ListN.{length, replicate}
 use Rattle.words.specs.rules.Choice.{pick}
 use Rattle.windows.specs.rules.Window.{sumOf}
-use Rattle.windows.specs.declared.Window.{Window}
 use Rattle.opcodes.specs.rules.Answers.{accepted}
 use Rattle.opcodes.specs.rules.Opcodes.{byWriting}
 use Rattle.opcodes.specs.declared.Command.{Command}
-use Rattle.opcodes.specs.declared.Dialect.{Dialect}
 use Rattle.commands.specs.rules.Commands.{unitOf, fillJudged, shapeOf, settingJudged}
 use Rattle.law_effects.specs.claims.Effects.{loadEffect, fillEffect, settingEffect}
 use Rattle.bit_stamps.specs.rules.Stamps.{entryAt}
@@ -22,14 +20,14 @@ use Rattle.sent.specs.rules.Feeding.{State, next, fed}
 use Rattle.sent.specs.rules.Line.{isStart, unitStep}
 use Rattle.machine_loads.specs.rules.Loads.{dataBytes}
 use Rattle.machine.specs.rules.Machine.{wordStep}
-use Rattle.sent.specs.rules.Opening.{openedBy, numberingFrom}
 use Rattle.sent.specs.declared.Bus.{Bus}
 use Rattle.machine_answers.specs.declared.Core.{Core}
 use Rattle.machine_answers.specs.declared.Kept.{Kept}
 use Rattle.machine_answers.specs.declared.Phase.{Phase}
 use Rattle.machine_answers.specs.declared.Phase.the-variants as phase
 use Rattle.sent.specs.declared.Session.{Session}
-use Rattle.bit_watch.specs.rules.Watched.{entriesAfter}
+use Rattle.sent_laws.specs.claims.Reached.{Reached, opened, stepped, fedReached}
+use Rattle.bit_watch.specs.rules.Watched.{unitEntries, entriesAfter}
 use Rattle.bit_history.specs.claims.Accepted.{one, judgedOne}
 
 -- a command with all its words: a fill or a setting; a load writes nothing before its data
@@ -67,29 +65,35 @@ unfoldable pub history : Bus → State → List ℕ → List Numbered
 history bus x [] = []
 history bus x (u ∷ us) = unitHistory bus x u ++ history bus (next bus x u) us
 
--- a session opened to number its commands, with the memory that is lent to it
-abbrev pub atOpening : Bus → Dialect → ℕ → List Window → List ℕ → State
-atOpening bus dialect count windows m = record { session = numberingFrom (openedBy bus dialect count windows) .session; memory = m }
+-- the history since the opening, whatever memory was lent to each unit
+unfoldable pub historyOf : {bus : Bus} {s : Session} → Reached bus s → List Numbered
+historyOf (opened numbers dialect count windows) = []
+historyOf {bus} (stepped {s} memory unit before) = historyOf before ++ unitHistory bus (record { session = s; memory = memory }) unit
 
--- the sessions that an opening and any units lead to, whatever memory is lent to each
-pub data Led (bus : Bus) : Session → Type 0 where
-  opened : (dialect : Dialect) (count : ℕ) (windows : List Window) → Led bus (openedBy bus dialect count windows .session)
-  numbering : (dialect : Dialect) (count : ℕ) (windows : List Window) → Led bus (numberingFrom (openedBy bus dialect count windows) .session)
-  stepped : {s : Session} (m : List ℕ) (u : ℕ) → Led bus s → Led bus (unitStep bus s m u .answer .session)
+-- the entries since then, all 0 at the opening, each unit watched
+unfoldable pub entriesOf : {bus : Bus} {s : Session} → List ℕ → Reached bus s → List ℕ
+entriesOf places (opened numbers dialect count windows) = replicate (64 * length places) 0
+entriesOf {bus} places (stepped {s} memory unit before) = unitEntries places (entriesOf places before) bus s memory unit
 
 pub record UnitsTell (bus : Bus) : Type 0 where
   -- the entries are those that the history stamps, from any state
   pub stamps : (places entries : List ℕ) (x : State) (units : List ℕ)
       → entriesAfter bus places entries x units ≡ stampedAll entries places (history bus x units)
-  -- after an opening each of its numbers is below 65,536
-  pub fit : (dialect : Dialect) (count : ℕ) (windows : List Window) (m units : List ℕ)
-      → numbersFit (history bus (atOpening bus dialect count windows m) units) ≡ true
-  -- so from entries that are all 0, entry k of chosen word j is the number of the last command that wrote its bit, 0 where none did
-  pub told : (dialect : Dialect) (count : ℕ) (windows : List Window) (m units places : List ℕ) (j k : ℕ) → j < length places → k < 32
-      → entryAt (entriesAfter bus places (replicate (64 * length places) 0) (atOpening bus dialect count windows m) units) j k
-      ≡ lastNumber (history bus (atOpening bus dialect count windows m) units) (chosenBit places j k)
+  -- so since an opening
+  pub stamps-since : (places : List ℕ) (s : Session) (reached : Reached bus s)
+      → entriesOf places reached ≡ stampedAll (replicate (64 * length places) 0) places (historyOf reached)
+  -- and each of its numbers is below 65,536
+  pub fit : (s : Session) (reached : Reached bus s) → numbersFit (historyOf reached) ≡ true
+  -- so entry k of chosen word j is the number of the last command that wrote its bit, 0 where none did
+  pub told : (s : Session) (reached : Reached bus s) (places : List ℕ) (j k : ℕ) → j < length places → k < 32
+      → entryAt (entriesOf places reached) j k ≡ lastNumber (historyOf reached) (chosenBit places j k)
+  -- units that are all lent one memory add their history, and their entries go on
+  pub more : (x : State) (reached : Reached bus (x .session)) (units : List ℕ)
+      → historyOf (fedReached bus x units reached) ≡ historyOf reached ++ history bus x units
+  pub more-entries : (places : List ℕ) (x : State) (reached : Reached bus (x .session)) (units : List ℕ)
+      → entriesOf places (fedReached bus x units reached) ≡ entriesAfter bus places (entriesOf places reached) x units
   -- a unit gives memory exactly the bits that it tells, those of the command, or the load's data, whose word it ends
-  pub unit : (s : Session) → Led bus s → (m : List ℕ) (u : ℕ)
+  pub unit : (s : Session) → Reached bus s → (m : List ℕ) (u : ℕ)
       → AsListed (unitHistory bus (record { session = s; memory = m }) u) (unitStep bus s m u .answer .wrote) m (unitStep bus s m u .memory)
   -- so after any units, from any session and memory, each bit is what the last command that writes it gives, and what it was where none does
   pub values : (x : State) (units : List ℕ) → LeftBy (history bus x units) (x .memory) (fed bus x units .memory)

@@ -1,11 +1,12 @@
--- The sessions that an opening and any calls lead to, and that none of them looks for a word where the image is cut inside one: for missing words one
--- refusal is enough, 5.
+-- The sessions that an opening and any calls lead to: what is said of flash sessions from an opening on is said of these. And that none of them looks for a
+-- word where the image is cut inside one: for missing words one refusal is enough, 5.
 use Prim.Native.Nat.{ℕ, _+_, _*_, _<_}
-use mathlib.Core.Bool.{true, false, _&&_}
+use mathlib.Core.Bool.{Bool, true, false, _&&_}
 use mathlib.Core.List.{List, []}
 use mathlib.Core.Path.{_≡_}
 use lib.Dec.{eqb}
 use lib.ListN.{length, replicate}
+use Rattle.words.specs.rules.Choice.{pick}
 use Rattle.windows.specs.rules.Map.{zeroWindow}
 use Rattle.windows.specs.declared.Window.{Window}
 use Rattle.opcodes.specs.rules.Answers.{codeOf}
@@ -13,16 +14,32 @@ use Rattle.opcodes.specs.declared.Dialect.{Dialect}
 use Rattle.opcodes.specs.declared.Dialect.the-variants.{Am17xx}
 use Rattle.ledger.specs.rules.Totals.{atOpening}
 use Rattle.reading.specs.rules.Reading.{pastWords}
-use Rattle.flash_session.specs.rules.Opening.{goodLength, openedBy}
+use Rattle.flash_session.specs.rules.Opening.{goodLength, openedBy, numberingFrom}
 use Rattle.flash.specs.rules.Step.{stepOf}
+use Rattle.flash_session.specs.declared.Opened.{Opened}
 use Rattle.flash_session.specs.declared.Session.{Session}
+
+-- an opening, of a session that numbers its commands or of one that does not
+abbrev pub openedTo : Bool → Dialect → ℕ → List Window → List ℕ → ℕ → Opened
+openedTo numbers dialect count windows image limit =
+    pick numbers (numberingFrom (openedBy dialect count windows image limit)) (openedBy dialect count windows image limit)
 
 -- an opening, accepted or refused, and any calls, whatever is lent to each
 pub data Reached : Session → Type 0 where
-  opened : (dialect : Dialect) (count : ℕ) (windows : List Window) (image : List ℕ) (limit : ℕ)
-      → Reached (openedBy dialect count windows image limit .session)
+  opened : (numbers : Bool) (dialect : Dialect) (count : ℕ) (windows : List Window) (image : List ℕ) (limit : ℕ)
+      → Reached (openedTo numbers dialect count windows image limit .session)
   called : {s : Session} (lent : record { memory : List ℕ; image : List ℕ }) → Reached s
       → Reached (stepOf s (lent .memory) (lent .image) .answer .session)
+
+-- the opening that it began with
+abbrev pub openingOf : {s : Session} → Reached s → Opened
+openingOf (opened numbers dialect count windows image limit) = openedTo numbers dialect count windows image limit
+openingOf (called lent before) = openingOf before
+
+-- was it to number its commands?
+abbrev pub numbering : {s : Session} → Reached s → Bool
+numbering (opened numbers dialect count windows image limit) = numbers
+numbering (called lent before) = numbering before
 
 -- where a call looks for a word: its opcode, its arguments, load data after so many of them
 pub data Looks (s : Session) : ℕ → Type 0 where

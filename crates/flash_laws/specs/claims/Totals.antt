@@ -1,25 +1,24 @@
 -- The totals of a flash session (02, request 5): what they count, what an entry says of them, and that AM17xx has nothing of them.
 use Prim.Native.Nat.{ℕ}
+use mathlib.Core.Bool.{false}
 use mathlib.Core.List.{List, [], _∷_, _++_}
 use mathlib.Core.Path.{_≡_}
 use Rattle.words.specs.rules.Bytes.{wordAt}
 use Rattle.words.specs.rules.Choice.{pick}
-use Rattle.windows.specs.declared.Window.{Window}
 use Rattle.opcodes.specs.rules.Answers.{accepted, kindOf}
 use Rattle.opcodes.specs.rules.Opcodes.{lookedUp}
 use Rattle.opcodes.specs.declared.Dialect.the-variants.{Am17xx, Dm648}
 use Rattle.opcodes.specs.declared.Found.{Found}
 use Rattle.opcodes.specs.declared.Found.the-variants.{Known, Retired, Unknown}
 use Rattle.opcodes.specs.declared.Mode.the-variants.{Flash}
-use Rattle.ledger.specs.claims.Agreement.{plus}
+use Rattle.ledger.specs.claims.Agreement.{plus, Zero}
 use Rattle.ledger.specs.rules.Totals.{nothing, atOpening, numberedAs}
 use Rattle.ledger.specs.declared.Happening.{Happening}
 use Rattle.ledger.specs.declared.Happening.the-variants as happened
 use Rattle.ledger.specs.declared.Totals.{Totals}
 use Rattle.reading.specs.rules.Reading.{argument}
 use Rattle.flash_commands.specs.claims.Ways.{named, happening}
-use Rattle.flash_session.specs.rules.Opening.{begun}
-use Rattle.flash_laws.specs.claims.Reached.{Reached}
+use Rattle.flash_laws.specs.claims.Reached.{Reached, opened, called}
 use Rattle.flash_session.specs.rules.Sessions.{withTotals}
 use Rattle.flash.specs.rules.Step.{stepOf}
 use Rattle.flash_session.specs.declared.Called.{Called}
@@ -33,11 +32,6 @@ pub record Lent : Type 0 where
 -- the answer to a call
 abbrev pub answerTo : Session → Lent → Called
 answerTo s lent = stepOf s (lent .memory) (lent .image) .answer
-
--- the session after any calls
-unfoldable pub afterCalls : Session → List Lent → Session
-afterCalls s [] = s
-afterCalls s (lent ∷ rest) = afterCalls (answerTo s lent .session) rest
 
 -- the size of a load or a fill; nothing else has one
 abbrev pub sizesIn : Happening → List ℕ
@@ -60,18 +54,15 @@ acceptedIn s lent =
     pick (accepted (answerTo s lent .refusal))
     (sizesFound (lookedUp (wordAt (lent .image) (s .offset)) Flash (s .dialect)) (argument (lent .image) (s .offset) 1)) []
 
--- of all loads and fills that any calls accept
-unfoldable pub sizesAccepted : Session → List Lent → List ℕ
-sizesAccepted s [] = []
-sizesAccepted s (lent ∷ rest) = acceptedIn s lent ++ sizesAccepted (answerTo s lent .session) rest
+-- of all loads and fills that were accepted since the opening
+unfoldable pub sizesAccepted : {s : Session} → Reached s → List ℕ
+sizesAccepted (opened numbers dialect count windows image limit) = []
+sizesAccepted (called {s} lent before) = sizesAccepted before ++ acceptedIn s (record { memory = lent .memory; image = lent .image })
 
--- with no retry since an accepted opening, the totals are the count and the sum of the sizes of the accepted loads and fills
+-- with no retry since the opening, the totals are the count and the sum of the sizes of the accepted loads and fills
 abbrev pub CountsAccepted : Type 0
 CountsAccepted =
-    (windows : List Window) (bytes limit : ℕ) (calls : List Lent)
-    → afterCalls (begun Dm648 windows bytes limit .session) calls .retries ≡ 0
-    → afterCalls (begun Dm648 windows bytes limit .session) calls .totals .now
-    ≡ plus nothing (sizesAccepted (begun Dm648 windows bytes limit .session) calls)
+    (s : Session) (reached : Reached s) → s .dialect ≡ Dm648 → s .retries ≡ 0 → s .totals .now ≡ plus nothing (sizesAccepted reached)
 
 -- entering in DM648 means that both words were the totals
 abbrev pub EntersOnTotals : Type 0
@@ -90,8 +81,8 @@ untold a =
     }
 
 pub record Am17xxHasNone : Type 0 where
-  -- they stay 0
-  pub zero : (s : Session) → Reached s → s .dialect ≡ Am17xx → s .totals ≡ atOpening
+  -- they stay 0, and no Request stands
+  pub zero : (s : Session) → Reached s → s .dialect ≡ Am17xx → Zero (s .totals) × (s .totals .asked ≡ false)
   -- whatever they were, no answer and no byte of memory would be another
   pub unseen : (s : Session) (t : Totals) (m image : List ℕ) → s .dialect ≡ Am17xx
       → (untold (stepOf (withTotals s (numberedAs t (s .totals))) m image .answer) ≡ untold (stepOf s m image .answer))

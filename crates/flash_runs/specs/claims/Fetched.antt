@@ -13,8 +13,7 @@ use Rattle.opcodes.specs.declared.Found.the-variants.{Known, Retired, Unknown}
 use Rattle.opcodes.specs.declared.Mode.the-variants.{Flash}
 use Rattle.opcodes.specs.declared.Refusal.{Refusal}
 use Rattle.flash_commands.specs.claims.Ways.{dataWordsOf, met, spares}
-use Rattle.flash_session.specs.rules.Opening.{openedBy}
-use Rattle.flash_laws.specs.claims.Reached.{Reached, opened, called}
+use Rattle.flash_laws.specs.claims.Reached.{openedTo, Reached, opened, called}
 use Rattle.flash_session.specs.rules.Sessions.{countedOn}
 use Rattle.flash.specs.rules.Step.{stepOf}
 use Rattle.flash_session.specs.declared.Session.{Session}
@@ -38,13 +37,13 @@ callFetches s image q =
 
 -- the sum over an opening and any calls, each on the image as it was lent
 unfoldable pub prescribed : {s : Session} → Reached s → ℕ
-prescribed (opened dialect count windows image limit) = openingFetches (openedBy dialect count windows image limit .refusal)
+prescribed (opened numbers dialect count windows image limit) = openingFetches (openedTo numbers dialect count windows image limit .refusal)
 prescribed (called {s} lent before) =
     prescribed before + callFetches s (lent .image) (stepOf s (lent .memory) (lent .image) .answer .refusal)
 
 -- the retry limit that the opening was given
 unfoldable pub limitOf : {s : Session} → Reached s → ℕ
-limitOf (opened dialect count windows image limit) = limit
+limitOf (opened numbers dialect count windows image limit) = limit
 limitOf (called lent before) = limitOf before
 
 pub record CountsAsPrescribed : Type 0 where

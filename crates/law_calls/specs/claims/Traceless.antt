@@ -12,7 +12,7 @@ use Rattle.words.specs.rules.Bytes.{wordsBytes}
 use Rattle.bench_sessions.specs.rules.Feeding.{SessionOutcome, unitBytes, begun}
 use Rattle.bench_sessions.specs.rules.Numbers.{Watched}
 use Rattle.law_retries.specs.claims.Pieces.{Piece, allWords, Covers}
-use Rattle.law_retries.specs.claims.Retries.{Attempt, attemptWords, attemptsWords, attemptsPieces, JustAfter, NotAlone, Accepted, Retried}
+use Rattle.law_retries.specs.claims.Retries.{Attempt, attemptWords, attemptsWords, attemptsPieces, LentWhole, JustAfter, NotAlone, Accepted, Retried}
 use Rattle.law_calls.specs.claims.Calls.{Call, resultOf, busOf, openingOf, stateAfter, Feeds, refusalIn, countIn}
 
 -- what a call is lent beside its room: a map, a memory, and any bytes before and after the commands
@@ -77,7 +77,7 @@ pub record CallsLeaveNoTrace : Type 0 where
       → Retried (busOf call) (stateThere call lent) (attemptsWords attempts) (attemptsPieces attempts) (c ∷ cs)
       → NoTraceInCall call lent (attemptsWords attempts) (allWords (c ∷ cs))
   pub since-opening : (call : Call) (lent : Lent) (a : Attempt) (c : Piece) (cs : List Piece) → WholeBefore call lent
-      → JustAfter (busOf call) (stateThere call lent) → NotAlone (stateThere call lent) (attemptWords a)
+      → JustAfter (busOf call) (stateThere call lent .session) → LentWhole (stateThere call lent) → NotAlone (stateThere call lent) (attemptWords a)
       → Accepted (busOf call) (stateThere call lent) (attemptWords a) (a .pieces) (c ∷ cs)
       → Covers (stateThere call lent .session .core .windows) (a .pieces) (c ∷ cs)
       → NoTraceInCall call lent (attemptWords a) (allWords (c ∷ cs))

@@ -1,5 +1,5 @@
--- Numbers in flash mode (02, request 6): an opening without them leads to none, and where they are kept they change nothing until there are no more, which is
--- 25.
+-- Numbers in flash mode (02, request 6): an opening without them leads to none, one with them to sessions that have them, and where they are kept they change
+-- nothing until there are no more, which is 25.
 use Prim.Native.Nat.{ℕ}
 use mathlib.Core.Bool.{Bool, true, false}
 use mathlib.Core.List.{List}
@@ -12,9 +12,9 @@ use Rattle.opcodes.specs.declared.Found.{Found}
 use Rattle.opcodes.specs.declared.Found.the-variants.{Known, Retired, Unknown}
 use Rattle.opcodes.specs.declared.Mode.the-variants.{Flash}
 use Rattle.opcodes.specs.declared.Refusal.the-variants as refusal
-use Rattle.ledger.specs.claims.Agreement.{KeepsNone}
+use Rattle.ledger.specs.claims.Agreement.{KeepsNone, HasNumbers}
 use Rattle.ledger.specs.rules.Totals.{isSpent}
-use Rattle.flash_laws.specs.claims.Reached.{Reached}
+use Rattle.flash_laws.specs.claims.Reached.{Reached, openingOf, numbering}
 use Rattle.flash_session.specs.rules.Sessions.{CallOutcome, _leaving_, withTotals}
 use Rattle.flash.specs.rules.Step.{stepOf}
 use Rattle.flash_session.specs.declared.Called.{Called}
@@ -46,8 +46,10 @@ pub record OutOfNumbers (s : Session) (m image : List ℕ) : Type 0 where
 
 pub record InFlash : Type 0 where
   -- an opening without numbers leads to no session with them, and to no 25
-  pub none : (s : Session) → Reached s → KeepsNone (s .totals)
-  pub never : (s : Session) (m image : List ℕ) → Reached s → codeOf (stepOf s m image .answer .refusal) ≢ 25
+  pub none : (s : Session) (reached : Reached s) → numbering reached ≡ false → KeepsNone (s .totals)
+  pub never : (s : Session) (m image : List ℕ) (reached : Reached s) → numbering reached ≡ false → codeOf (stepOf s m image .answer .refusal) ≢ 25
+  -- one with them, which is not refused, leads to sessions that have them
+  pub some : (s : Session) (reached : Reached s) → numbering reached ≡ true → openingOf reached .refusal ≡ refusal.None → HasNumbers (s .totals)
   -- a call that is not answered 25 is answered as without the numbers
   pub same : (s : Session) (m image : List ℕ) → codeOf (stepOf s m image .answer .refusal) ≢ 25
       → plainOutcome (stepOf s m image) ≡ stepOf (plain s) m image

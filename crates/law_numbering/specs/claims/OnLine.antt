@@ -6,25 +6,23 @@ use mathlib.Core.List.{List, [], _∷_}
 use mathlib.Core.Logic.{_≢_}
 use mathlib.Core.Path.{_≡_}
 use lib.Dec.{eqb}
-use Rattle.windows.specs.declared.Window.{Window}
 use Rattle.opcodes.specs.rules.Answers.{codeOf}
 use Rattle.opcodes.specs.declared.Command.{Command}
-use Rattle.opcodes.specs.declared.Dialect.{Dialect}
 use Rattle.opcodes.specs.declared.Refusal.the-variants as refusal
 use Rattle.ledger.specs.claims.Agreement.{KeepsNone}
 use Rattle.ledger.specs.rules.Totals.{isSpent}
-use Rattle.sent.specs.rules.Feeding.{State, totals, next, heard, fed, answers}
+use Rattle.sent.specs.rules.Feeding.{State, next, heard, fed, answers}
 use Rattle.sent.specs.rules.Line as line
 use Rattle.sent.specs.rules.Line.{unitStep}
 use Rattle.machine_answers.specs.rules.Answers.{WordOutcome, _leaving_, tallied, changed}
 use Rattle.machine.specs.rules.Machine.{wordStep}
-use Rattle.sent.specs.rules.Opening.{openedBy}
 use Rattle.sent.specs.declared.Bus.{Bus}
 use Rattle.machine_answers.specs.declared.Core.{Core}
 use Rattle.machine_answers.specs.declared.Phase.{Phase}
 use Rattle.machine_answers.specs.declared.Phase.the-variants as phase
 use Rattle.sent.specs.declared.Session.{Session}
 use Rattle.machine_answers.specs.declared.Taken.{Taken}
+use Rattle.sent_laws.specs.claims.Reached.{Reached, numbering}
 use Rattle.law_numbering.specs.claims.LeftOut.{unnumbered, byAny, takes}
 
 -- a core with the numbers left out
@@ -85,15 +83,11 @@ pub record ButNumbers (bus : Bus) (x : State) (units : List ℕ) : Type 0 where
   pub same-answers : answers bus x units ≡ answers bus (plainState x) units
   pub same-rest : plainState (fed bus x units) ≡ fed bus (plainState x) units
 
--- an opening without numbers, with the memory that is lent
-abbrev pub opened : Bus → Dialect → ℕ → List Window → List ℕ → State
-opened bus dialect count windows m = record { session = openedBy bus dialect count windows .session; memory = m }
-
 pub record OnLine : Type 0 where
-  -- whatever units follow it, there are no numbers and there is no 25
-  pub none : (bus : Bus) (dialect : Dialect) (count : ℕ) (windows : List Window) (m units : List ℕ)
-      → KeepsNone (totals (fed bus (opened bus dialect count windows m) units))
-  pub never : (bus : Bus) (dialect : Dialect) (count : ℕ) (windows : List Window) (m units : List ℕ) → NoneSpent bus (opened bus dialect count windows m) units
+  -- an opening without numbers leads to no session with them, and to no 25
+  pub none : (bus : Bus) (s : Session) (reached : Reached bus s) → numbering reached ≡ false → KeepsNone (s .core .tally .totals)
+  pub never : (bus : Bus) (s : Session) (m : List ℕ) (u : ℕ) (reached : Reached bus s) → numbering reached ≡ false
+      → codeOf (unitStep bus s m u .answer .refusal) ≢ 25
   -- a word that is not answered 25 is answered as without the numbers
   pub word : (k : Core) (m : List ℕ) (word : ℕ) → codeOf (wordStep k m word .answer .refusal) ≢ 25
       → plainOutcome (wordStep k m word) ≡ wordStep (plain k) m word

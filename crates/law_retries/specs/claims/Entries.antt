@@ -7,7 +7,7 @@ use Rattle.sent.specs.rules.Bus.{allUnits}
 use Rattle.sent.specs.rules.Feeding.{State}
 use Rattle.sent.specs.declared.Bus.{Bus}
 use Rattle.law_retries.specs.claims.Pieces.{Piece, allWords, Covers}
-use Rattle.law_retries.specs.claims.Retries.{Attempt, attemptWords, attemptsWords, attemptsPieces, JustAfter, NotAlone, Accepted, Retried}
+use Rattle.law_retries.specs.claims.Retries.{Attempt, attemptWords, attemptsWords, attemptsPieces, JustAfter, LentWhole, NotAlone, Accepted, Retried}
 use Rattle.bit_watch.specs.rules.Watched.{entriesAfter}
 
 -- some words leave no trace in the entries once others follow: every byte of them is that of the others alone, and so it is after any further units
@@ -29,9 +29,9 @@ ManyRetriesLeaveNoEntry =
     (bus : Bus) (x : State) (attempts : List Attempt) (c : Piece) (cs : List Piece)
     → Retried bus x (attemptsWords attempts) (attemptsPieces attempts) (c ∷ cs) → NoEntryLeft bus x (attemptsWords attempts) (allWords (c ∷ cs))
 
--- from an opening on: of the session nothing is assumed but that the attempt comes just after one of the four
+-- from an opening on, on any memory of bytes as long as the map: of the session nothing is assumed but that the attempt comes just after one of the four
 abbrev pub EntriesSinceOpening : Type 0
 EntriesSinceOpening =
     (bus : Bus) (x : State) (a : Attempt) (c : Piece) (cs : List Piece)
-    → JustAfter bus x → NotAlone x (attemptWords a) → Accepted bus x (attemptWords a) (a .pieces) (c ∷ cs)
+    → JustAfter bus (x .session) → LentWhole x → NotAlone x (attemptWords a) → Accepted bus x (attemptWords a) (a .pieces) (c ∷ cs)
     → Covers (x .session .core .windows) (a .pieces) (c ∷ cs) → NoEntryLeft bus x (attemptWords a) (allWords (c ∷ cs))

@@ -17,12 +17,13 @@ use Rattle.ledger.specs.claims.Attempts.{Level}
 use Rattle.ledger.specs.rules.Totals.{standing, nothing as zero}
 use Rattle.ledger.specs.declared.Standing.{Standing}
 use Rattle.sent.specs.rules.Bus.{startUnit, unitsOf}
-use Rattle.sent.specs.rules.Feeding.{State, checksum, totals, heard}
+use Rattle.sent.specs.rules.Feeding.{State, checksum, totals, next, heard, fed}
 use Rattle.machine_answers.specs.rules.Replies.{silence}
 use Rattle.sent.specs.declared.Bus.{Bus}
 use Rattle.sent.specs.declared.Bus.the-variants.{Bytes}
+use Rattle.sent_laws.specs.claims.Reached.{openedTo, Reached}
 use Rattle.law_retries.specs.claims.Pieces.{Piece, load, setting, enableOpcode, requestOpcode, wordsOf, allWords, Covers}
-use Rattle.law_retries.specs.claims.Retries.{after, Awaits, Begins, sinceOpening, Reached, AtStart, JustAfter, Attempt, attemptWords, NoTrace, Accepted}
+use Rattle.law_retries.specs.claims.Retries.{after, Awaits, Begins, LentWhole, AtStart, JustAfter, Attempt, attemptWords, NoTrace, Accepted}
 use Rattle.law_retries.specs.claims.Retries.{attemptsWords, attemptsPieces, NotAlone, Retried}
 
 -- a window of eight bytes, and what they hold
@@ -32,13 +33,17 @@ windows = record { first = 0x80000000; length = 8; rights = 7 } ∷ replicate 7 
 abbrev pub before : List ℕ
 before = 0x7F ∷ 0 ∷ 0 ∷ 0 ∷ 0xAA ∷ 0xAA ∷ 0xAA ∷ 0xAA ∷ []
 
--- a session on them, opened and started; it numbers its commands, or does not
+-- a session on them after its opening and some units, all lent one memory; it numbers its commands, or does not
+abbrev pub sinceOpening : Bool → Bus → Dialect → List ℕ → List ℕ → State
+sinceOpening numbers bus dialect memory units = fed bus (record { session = openedTo numbers bus dialect 1 windows .session; memory = memory }) units
+
+-- opened and started
 unfoldable pub startedTo : Bool → Bus → Dialect → State
-startedTo numbers bus dialect = sinceOpening numbers bus dialect 1 windows before (startUnit bus ∷ [])
+startedTo numbers bus dialect = sinceOpening numbers bus dialect before (startUnit bus ∷ [])
 
 -- with the checksum on
 unfoldable pub startTo : Bool → Bus → Dialect → State
-startTo numbers bus dialect = sinceOpening numbers bus dialect 1 windows before (startUnit bus ∷ unitsOf bus enableOpcode)
+startTo numbers bus dialect = sinceOpening numbers bus dialect before (startUnit bus ∷ unitsOf bus enableOpcode)
 
 -- those that number
 abbrev pub started : Bus → Dialect → State
@@ -77,7 +82,8 @@ meant = 0x1F ∷ 0x02 ∷ 0 ∷ 0 ∷ 0x11 ∷ 0x22 ∷ 0x33 ∷ 0xAA ∷ []
 -- the premises are met, from the opening on; the attempt changes memory; after the repeat nothing is left of it, one load is counted, and the next command is
 -- the fourth
 pub record Worked (numbers : Bool) (bus : Bus) (dialect : Dialect) : Type 0 where
-  pub just-after : JustAfter bus (startTo numbers bus dialect)
+  pub just-after : JustAfter bus (startTo numbers bus dialect .session)
+  pub whole : LentWhole (startTo numbers bus dialect)
   pub retried : Retried bus (startTo numbers bus dialect) (attemptWords abandoned) (abandoned .pieces) repeated
   pub no-trace : NoTrace bus (startTo numbers bus dialect) (attemptWords abandoned) (allWords repeated)
   pub after-attempt : after bus (startTo numbers bus dialect) (attemptWords abandoned) .memory ≡ tried
@@ -165,7 +171,7 @@ pub record NumberNotLevel : Type 0 where
 
 -- nothing follows an attempt that begins at the start unit: that an opcode has been acknowledged is a trace
 pub record NothingFollows : Type 0 where
-  pub just-after : JustAfter Bytes (started Bytes Am17xx)
+  pub just-after : JustAfter Bytes (started Bytes Am17xx .session)
   pub begins : Begins (started Bytes Am17xx)
   pub not-alone : NotAlone (started Bytes Am17xx) (attemptWords nothing)
   pub accepted : Accepted Bytes (started Bytes Am17xx) (attemptWords nothing) [] []
@@ -177,9 +183,19 @@ abbrev pub shorter : List ℕ
 shorter = 0x7F ∷ 0 ∷ 0 ∷ 0 ∷ 0xAA ∷ 0xAA ∷ 0xAA ∷ []
 
 unfoldable pub short : State
-short = sinceOpening true Bytes Am17xx 1 windows shorter []
+short = sinceOpening true Bytes Am17xx shorter []
 
 pub record MemoryTooShort : Type 0 where
-  pub reached : Reached Bytes short
+  pub reached : Reached Bytes (short .session)
   pub at-start : AtStart short
   pub refused : heard Bytes short (startUnit Bytes) ≡ record { refusal = Memory; reply = silence; event = Nothing }
+
+-- before the attempt any memory may be lent: here too short a one, which is refused, and then zeros; the session is that of the worked instance, and so is the
+-- attempt on its memory
+unfoldable pub elsewhere : State
+elsewhere = fed Bytes (record { session = next Bytes short (startUnit Bytes) .session; memory = replicate 8 0 }) (startUnit Bytes ∷ unitsOf Bytes enableOpcode)
+
+pub record LentOtherwise : Type 0 where
+  pub just-after : JustAfter Bytes (elsewhere .session)
+  pub same-session : elsewhere .session ≡ start Bytes Am17xx .session
+  pub other-memory : elsewhere .memory ≡ replicate 8 0

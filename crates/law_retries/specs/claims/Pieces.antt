@@ -1,5 +1,5 @@
 -- Loads, fills and settings as they are sent, and the bits that they write.
-use Prim.Native.Nat.{ℕ, _+_, _/_, _<_, _^_}
+use Prim.Native.Nat.{ℕ, _+_, _/_}
 use mathlib.Core.Bool.{Bool, true}
 use mathlib.Core.List.{List, [], _∷_, _++_}
 use mathlib.Core.Path.{_≡_}
@@ -10,6 +10,7 @@ use Rattle.commands.specs.declared.Judged.{Judged}
 use Rattle.commands.specs.declared.Judged.the-variants.{Granted, Refused}
 use Rattle.law_effects.specs.claims.Effects.{Effect, noEffect, loadEffect, fillEffect, settingEffect, someWrites}
 use Rattle.words.specs.rules.Bytes.{wordsBytes}
+use Rattle.sent_laws.specs.claims.Lines.{AreWords}
 
 -- the opcodes that are sent here
 abbrev pub loadOpcode : ℕ
@@ -50,11 +51,6 @@ allWords (c ∷ cs) = wordsOf c ++ allWords cs
 -- the bytes that a load loads: the first of its words' bytes, as many as its size says; the others are pad bytes
 abbrev pub bytesLoaded : ℕ → List ℕ → List ℕ
 bytesLoaded size contents = take size (wordsBytes contents)
-
--- every element of a list is a word
-abbrev pub AreWords : List ℕ → Type 0
-AreWords [] = Unit {0}
-AreWords (w ∷ ws) = (w < 2 ^ 32) × AreWords ws
 
 -- a load has as many words of data as its size needs
 abbrev pub Complete : Piece → Type 0

@@ -8,18 +8,15 @@ use mathlib.Core.Path.{_≡_}
 use lib.ListN.{length, getD, replicate}
 use Rattle.words.specs.rules.Choice.{pick}
 use Rattle.windows.specs.rules.Window.{sumOf}
-use Rattle.windows.specs.declared.Window.{Window}
-use Rattle.opcodes.specs.declared.Dialect.{Dialect}
 use Rattle.ledger.specs.claims.Attempts.{Level}
-use Rattle.sent.specs.rules.Bus.{unitsInWord, startUnit, unitsOf, allUnits}
-use Rattle.sent.specs.rules.Feeding.{State, Heard, checksum, totals, next, heard, fed, answers, NoneRefused}
+use Rattle.sent.specs.rules.Bus.{unitsInWord, startUnit, unitsOf, allUnits, pushed}
+use Rattle.sent.specs.rules.Feeding.{State, Heard, checksum, totals, heard, fed, answers, NoneRefused}
 use Rattle.words.specs.rules.Bytes.{AreBytes}
-use Rattle.sent.specs.rules.Opening.{openedBy, numberingFrom}
-use Rattle.sent.specs.rules.Line.{startAnswer}
+use Rattle.sent.specs.rules.Line.{startAnswer, unitStep}
 use Rattle.machine_answers.specs.rules.Replies.{silence, oneWord, wordThen, acknowledged}
 use Rattle.sent.specs.declared.Bus.{Bus}
-use Rattle.machine_answers.specs.declared.Core.{Core}
-use Rattle.sent.specs.declared.Opened.{Opened}
+use Rattle.sent.specs.declared.Session.{Session}
+use Rattle.sent_laws.specs.claims.Reached.{Reached}
 use Rattle.machine_answers.specs.declared.Phase.the-variants.{Opcode}
 use Rattle.law_retries.specs.claims.Pieces.{Piece, allWords, AllSendable, Covers, enableOpcode, requestOpcode, startOverOpcode}
 
@@ -42,33 +39,10 @@ pub record Begins (x : State) : Type 0 where
   pub rewound : checksum x ≡ 0
   pub level : Level (totals x)
 
--- an opening, of a session that numbers its commands or of one that does not
-abbrev pub openedTo : Bool → Bus → Dialect → ℕ → List Window → Opened
-openedTo numbers bus dialect count windows = pick numbers (numberingFrom (openedBy bus dialect count windows)) (openedBy bus dialect count windows)
-
--- a session after its opening and some units
-abbrev pub sinceOpening : Bool → Bus → Dialect → ℕ → List Window → List ℕ → List ℕ → State
-sinceOpening numbers bus dialect count windows memory units =
-    fed bus (record { session = openedTo numbers bus dialect count windows .session; memory = memory }) units
-
--- a session that an opening leads to, lent memory of bytes, whatever is sent
-pub record Reached (bus : Bus) (x : State) : Type 0 where
-  pub numbers : Bool
-  pub dialect : Dialect
-  pub count : ℕ
-  pub windows : List Window
-  pub memory : List ℕ
-  pub sent : List ℕ
-  pub bytes : AreBytes memory
-  pub leads : sinceOpening numbers bus dialect count windows memory sent ≡ x
-
--- the core that its opening gave
-abbrev pub opened : {bus : Bus} {x : State} → Reached bus x → Core
-opened {bus} r = openedTo (r .numbers) bus (r .dialect) (r .count) (r .windows) .session .core
-
--- the memory lent to it has the length of its map
-abbrev pub Whole : {bus : Bus} {x : State} → Reached bus x → Type 0
-Whole r = length (r .memory) ≡ sumOf (opened r .windows)
+-- memory as it must be lent to a session: bytes, as many as its map has
+pub record LentWhole (x : State) : Type 0 where
+  pub lent : length (x .memory) ≡ sumOf (x .session .core .windows)
+  pub bytes : AreBytes (x .memory)
 
 -- what is seen of a session that awaits an opcode: it runs, has been started and has nothing gathered
 pub record Idle (x : State) : Type 0 where
@@ -83,42 +57,49 @@ pub record AtStart (x : State) : Type 0 where
   pub before : x .session .core .begun ≡ false
   pub fresh : x .session .line .have ≡ 0
 
--- what units keep, from an opening that gave this core and was lent memory of this size
-pub record Sound (first : Core) (size : ℕ) (x : State) : Type 0 where
-  pub same-windows : x .session .core .windows ≡ first .windows
-  pub same-length : length (x .memory) ≡ size
-  pub bytes : AreBytes (x .memory)
-  pub gathered : x .session .line .have ≡ 0 → x .session .line .word ≡ 0
-  pub unstarted : x .session .line .started ≡ false → (x .session .line .have ≡ 0) × (x .session .core .begun ≡ false)
-  pub started : x .session .line .started ≡ true → size ≡ sumOf (first .windows)
-  pub unbegun : x .session .core .begun ≡ false → (x .session .core .tally ≡ first .tally) × (x .session .core .stage .phase ≡ Opcode)
+-- a unit that ends the word of an opcode where one is awaited: the opcode is taken
+pub record Takes (bus : Bus) (s : Session) (memory : List ℕ) (u opcode : ℕ) : Type 0 where
+  pub running : s .core .ended ≡ false
+  pub lent : length memory ≡ sumOf (s .core .windows)
+  pub awaited : s .core .stage .phase ≡ Opcode
+  pub last : s .line .have ≡ unitsInWord bus - 1
+  pub whole : pushed bus (s .line .word) u ≡ opcode
 
--- just after the answered start unit, or after an Enable, a Request or a Start-Over that was taken as an opcode
-pub data JustAfter (bus : Bus) : State → Type 0 where
-  after-start : {x : State} (u : ℕ) → Reached bus x → heard bus x u .reply ≡ startAnswer bus → JustAfter bus (next bus x u)
-  after-enable : {x : State} → Reached bus x → Idle x → JustAfter bus (fed bus x (unitsOf bus enableOpcode))
-  after-request : {x : State} → Reached bus x → Idle x → JustAfter bus (fed bus x (unitsOf bus requestOpcode))
-  after-start-over : {x : State} → Reached bus x → Idle x → JustAfter bus (fed bus x (unitsOf bus startOverOpcode))
+-- just after the answered start unit, or after an Enable, a Request or a Start-Over that was taken as an opcode, whatever memory was lent up to there
+pub data JustAfter (bus : Bus) : Session → Type 0 where
+  after-start : {s : Session} (memory : List ℕ) (u : ℕ) → Reached bus s → unitStep bus s memory u .answer .reply ≡ startAnswer bus
+      → JustAfter bus (unitStep bus s memory u .answer .session)
+  after-enable : {s : Session} (memory : List ℕ) (u : ℕ) → Reached bus s → Takes bus s memory u enableOpcode
+      → JustAfter bus (unitStep bus s memory u .answer .session)
+  after-request : {s : Session} (memory : List ℕ) (u : ℕ) → Reached bus s → Takes bus s memory u requestOpcode
+      → JustAfter bus (unitStep bus s memory u .answer .session)
+  after-start-over : {s : Session} (memory : List ℕ) (u : ℕ) → Reached bus s → Takes bus s memory u startOverOpcode
+      → JustAfter bus (unitStep bus s memory u .answer .session)
 
 -- was it a Request?
-abbrev pub afterRequest : {bus : Bus} {x : State} → JustAfter bus x → Bool
-afterRequest (after-start u reached answered) = false
-afterRequest (after-enable reached idle) = false
-afterRequest (after-request reached idle) = true
-afterRequest (after-start-over reached idle) = false
+abbrev pub afterRequest : {bus : Bus} {s : Session} → JustAfter bus s → Bool
+afterRequest (after-start memory u reached answered) = false
+afterRequest (after-enable memory u reached takes) = false
+afterRequest (after-request memory u reached takes) = true
+afterRequest (after-start-over memory u reached takes) = false
 
--- where attempts begin, of every session that units of a line lead to
+-- where attempts begin, of every session that an opening and units of a line lead to, whatever memory was lent to each
 pub record Beginnings (bus : Bus) : Type 0 where
-  -- just after each of the four
-  pub begins : (x : State) → JustAfter bus x → Begins x
+  -- just after each of the four, on any memory of bytes as long as the map
+  pub begins : (x : State) → JustAfter bus (x .session) → LentWhole x → Begins x
+  -- each of the three opcodes, sent whole on its memory to a session that is seen to await one, is such a place
+  pub sent-whole : (x : State) → Reached bus (x .session) → LentWhole x → Idle x
+      → JustAfter bus (fed bus x (unitsOf bus enableOpcode) .session) × JustAfter bus (fed bus x (unitsOf bus requestOpcode) .session)
+      × JustAfter bus (fed bus x (unitsOf bus startOverOpcode) .session)
   -- a Request stands unsettled just after it alone
-  pub unsettled : (x : State) (j : JustAfter bus x) → totals x .asked ≡ afterRequest j
-  -- a session that is seen to await an opcode does so on its own memory, with nothing left of a word; for units keep it sound
-  pub awaits : (x : State) → Reached bus x → Idle x → Awaits x
-  pub sound : (x : State) (r : Reached bus x) → Sound (opened r) (length (r .memory)) x
+  pub unsettled : (s : Session) (j : JustAfter bus s) → s .core .tally .totals .asked ≡ afterRequest j
+  -- a session that is seen to await an opcode does so with nothing left of a word
+  pub awaits : (x : State) → Reached bus (x .session) → LentWhole x → Idle x → Awaits x
   -- the start unit is answered before an opcode is acknowledged, where a word would begin; no other unit is answered so, and nowhere else
-  pub answered : (x : State) (r : Reached bus x) → Whole r → AtStart x → heard bus x (startUnit bus) .reply ≡ startAnswer bus
-  pub only-there : (x : State) (u : ℕ) (r : Reached bus x) → heard bus x u .reply ≡ startAnswer bus → (u ≡ startUnit bus) × Whole r × AtStart x
+  pub answered : (x : State) → Reached bus (x .session) → length (x .memory) ≡ sumOf (x .session .core .windows) → AtStart x
+      → heard bus x (startUnit bus) .reply ≡ startAnswer bus
+  pub only-there : (x : State) (u : ℕ) → Reached bus (x .session) → heard bus x u .reply ≡ startAnswer bus
+      → (u ≡ startUnit bus) × (length (x .memory) ≡ sumOf (x .session .core .windows)) × AtStart x
 
 -- an abandoned attempt: loads, fills and settings, none or more; perhaps a Request; a Start-Over
 pub record Attempt : Type 0 where
@@ -185,9 +166,10 @@ ManyRetriesLeaveNoTrace =
     (bus : Bus) (x : State) (attempts : List Attempt) (c : Piece) (cs : List Piece)
     → Retried bus x (attemptsWords attempts) (attemptsPieces attempts) (c ∷ cs) → NoTrace bus x (attemptsWords attempts) (allWords (c ∷ cs))
 
--- demand 3 from an opening on: of the session nothing is assumed but that the attempt comes just after one of the four
+-- demand 3 from an opening on: of the session nothing is assumed but that the attempt comes just after one of the four, and of the memory nothing but that
+-- it is the session's to write from there on
 abbrev pub RetriesSinceOpening : Type 0
 RetriesSinceOpening =
     (bus : Bus) (x : State) (a : Attempt) (c : Piece) (cs : List Piece)
-    → JustAfter bus x → NotAlone x (attemptWords a) → Accepted bus x (attemptWords a) (a .pieces) (c ∷ cs)
+    → JustAfter bus (x .session) → LentWhole x → NotAlone x (attemptWords a) → Accepted bus x (attemptWords a) (a .pieces) (c ∷ cs)
     → Covers (x .session .core .windows) (a .pieces) (c ∷ cs) → NoTrace bus x (attemptWords a) (allWords (c ∷ cs))

@@ -1,5 +1,4 @@
--- The units of a word are the word, on either line. So what is stated of words holds of all that a line carries, and both lines do the same with the same
--- words.
+-- The units of a word are the word, on either line. So what is stated of words holds of all that a line carries.
 use Prim.Native.Nat.{ℕ, _-_, _/_, _%_, _^_, _<_}
 use mathlib.Core.Bool.{true, false}
 use mathlib.Core.List.{List, [], _∷_, _++_}
@@ -12,15 +11,15 @@ use Rattle.opcodes.specs.rules.Answers.{codeOf}
 use Rattle.opcodes.specs.declared.Dialect.{Dialect}
 use Rattle.opcodes.specs.declared.Event.the-variants.{Nothing}
 use Rattle.opcodes.specs.declared.Refusal.{Refusal}
-use Rattle.opcodes.specs.declared.Refusal.the-variants.{None, Ended}
-use Rattle.sent.specs.rules.Bus.{unitBits, unitsInWord, startUnit, unitsOf, allUnits, firstUnit}
-use Rattle.sent.specs.rules.Feeding.{State, Heard, heard, fed, answers, replied}
+use Rattle.opcodes.specs.declared.Refusal.the-variants.{None, Memory, Ended}
+use Rattle.sent.specs.rules.Bus.{unitBits, unitsInWord, startUnit, unitsOf, firstUnit}
+use Rattle.sent.specs.rules.Feeding.{State, Heard, heard, fed, answers}
 use Rattle.machine.specs.rules.Machine.{wordStep}
 use Rattle.sent.specs.rules.Opening.{openedBy}
 use Rattle.machine_answers.specs.rules.Replies.{silence, sentBytes}
 use Rattle.machine.specs.claims.Every.{EveryWord}
 use Rattle.sent.specs.declared.Bus.{Bus}
-use Rattle.sent.specs.declared.Bus.the-variants.{Bytes, Halves}
+use Rattle.sent.specs.declared.Bus.the-variants.{Halves}
 use Rattle.machine_answers.specs.declared.Core.{Core}
 use Rattle.machine_answers.specs.declared.Taken.{Taken}
 
@@ -62,28 +61,19 @@ pub record UnitsAreTheWord (bus : Bus) (k : Core) (m : List ℕ) (word : ℕ) : 
       × (wordStep k m word .answer .core .ended ≡ true)
       × (fed bus (atWord k m) (unitsOf bus word) .memory ≡ m)
 
--- an ended session absorbs all units: it stays as it is, and each is refused with 14
-pub record Absorbed (bus : Bus) (x : State) (units : List ℕ) : Type 0 where
+-- a session that absorbs all units: it stays as it is, and each is refused alike
+pub record Absorbed (bus : Bus) (x : State) (units : List ℕ) (q : Refusal) : Type 0 where
   pub stays : fed bus x units ≡ x
-  pub hears : answers bus x units ≡ replicate (length units) (refusedBy Ended)
-
--- words that either line takes as words
-unfoldable pub Words : Core → List ℕ → Type 0
-Words k [] = Unit {0}
-Words k (word ∷ words) = (word < 2 ^ 32) × Plain Bytes k word × Plain Halves k word × Words k words
-
--- the same words to one session by bytes and to another by halves: the same core, memory and reply words
-pub record EitherLine (x y : State) (words : List ℕ) : Type 0 where
-  pub same-core : fed Bytes x (allUnits Bytes words) .session .core ≡ fed Halves y (allUnits Halves words) .session .core
-  pub same-memory : fed Bytes x (allUnits Bytes words) .memory ≡ fed Halves y (allUnits Halves words) .memory
-  pub same-replies : replied (answers Bytes x (allUnits Bytes words)) ≡ replied (answers Halves y (allUnits Halves words))
+  pub hears : answers bus x units ≡ replicate (length units) (refusedBy q)
 
 -- what holds of either line
 pub record Lines : Type 0 where
   pub lift : (bus : Bus) (k : Core) (m : List ℕ) (word : ℕ) → Ready bus k m word → UnitsAreTheWord bus k m word
   pub every : (k : Core) (m : List ℕ) (word : ℕ) → EveryWord k m (wordStep k m word)
-  pub absorbs : (bus : Bus) (x : State) (units : List ℕ) → x .session .core .ended ≡ true → Absorbed bus x units
-  pub either : (k : Core) (m words : List ℕ) → length m ≡ sumOf (k .windows) → Words k words → EitherLine (atWord k m) (atWord k m) words
+  -- 14 where it has ended, 2 where its memory has another length than its map
+  pub absorbs : (bus : Bus) (x : State) (units : List ℕ) → x .session .core .ended ≡ true → Absorbed bus x units Ended
+  pub unlent : (bus : Bus) (x : State) (units : List ℕ) → x .session .core .ended ≡ false → length (x .memory) ≢ sumOf (x .session .core .windows)
+      → Absorbed bus x units Memory
   -- a reply is whole units: on the line of halves the count of its bytes is even
   pub whole-units : (bus : Bus) (x : State) (unit : ℕ) → heard bus x unit .reply .count % (unitBits bus / 8) ≡ 0
   -- the line of halves has no greeting
