@@ -12,21 +12,19 @@ use Rattle.opcodes.specs.declared.Command.the-variants as command
 use Rattle.opcodes.specs.declared.Mode.the-variants.{Flash}
 use Rattle.opcodes.specs.declared.Refusal.the-variants as refusal
 use Rattle.opcodes.proofs.Counts.{rowIs, row-is}
-use Rattle.ledger.specs.rules.Totals.{wouldPass}
-use Rattle.reading.specs.rules.Reading.{wordsFrom, pastWords, argument}
+use Rattle.reading.specs.rules.Reading.{wordsFrom, pastWords}
 use Rattle.reading.specs.declared.Read.{Read}
-use Rattle.reading.proofs.Reading.{are-there, Reads as ReadsAs, no-opcode, unknown, retired, cut-short, whole, reads as how-read}
-use Rattle.commands.specs.rules.Commands.{judgedCode}
-use Rattle.commands.specs.declared.Judged.{Judged}
-use Rattle.flash_commands.specs.claims.Ways.{dataWordsOf, Call}
+use Rattle.reading.proofs.Reading.{Reads as ReadsAs, no-opcode, unknown, retired, cut-short, whole, reads as how-read}
+use Rattle.flash_commands.specs.claims.Ways.{Call}
 use Rattle.flash_commands.specs.claims.Commands.{Ready}
 use Rattle.flash_laws.specs.claims.Calls.{EveryCall}
 use Rattle.flash_session.specs.rules.Opening.{goodLength}
 use Rattle.flash_session.specs.rules.Sessions.{CallOutcome, countedOn, fetching}
-use Rattle.flash.specs.rules.Step.{loadAt, loadJudgedAs, performed, followed, stepOf}
+use Rattle.flash.specs.rules.Step.{performed, followed, stepOf}
 use Rattle.flash_session.specs.declared.Session.{Session}
-use Rattle.flash_commands.proofs.Verdicts.{ends, Judges, grants, denies, load-judges, test-failed}
-use Rattle.flash_commands.proofs.Ways.{counted-both, spared, met-none, met-found, stops, goes-on, denied, section-judges, read, all-met, every-command}
+use Rattle.flash_commands.proofs.Verdicts.{ends}
+use Rattle.flash_commands.proofs.Ways.{spared, met-none, met-found, stops, every-command}
+use Rattle.flash.proofs.Loads.{every-load}
 
 -- each command whose argument words are there
 module _ (s : Session) (m image : List ℕ) where
@@ -34,26 +32,10 @@ module _ (s : Session) (m image : List ℕ) where
   abbrev Answered : CallOutcome → Type 0
   Answered o = Call s image (o .answer)
 
-  load-call : {n : ℕ} {j : Judged} (ready : Ready s image command.Load n) → Judges j
-      → (judgedCode j ≡ 0 → wouldPass (s .dialect) (s .totals) (argument image (s .offset) 1) ≡ false)
-      → Answered
-      (loadJudgedAs (fetching (1 + n) s) m image (pastWords (s .offset) n) (argument image (s .offset) 0) (argument image (s .offset) 1) j)
-  unfolding loadAt
-  load-call {n} ready grants fits =
-      let met-all = all-met s image ready in
-      of-choice Answered _ (λ e. denied s image (ready .running) (1 + n) met-all refusal.Missing (ends refusal.Missing refl))
-      (λ e. of-choice Answered _ (λ spent. denied s image (ready .running) (1 + n) met-all refusal.Number (ends refusal.Number refl))
-      (λ unspent. goes-on s image (ready .running) (λ z. omega arith)
-      (read s image ready (1 + n + dataWordsOf command.Load s image) refl (omega (arith, are-there image _ _ (not-false _ e)))) (omega arith)
-      (counted-both (s .fetched) (1 + n) _) (fits refl, unspent)))
-  load-call {n} ready (denies e) fits = denied s image (ready .running) (1 + n) (all-met s image ready) _ e
-
   performed-call : (c : Command) (n : ℕ) → rowIs Flash (s .dialect) c n ≡ true → Ready s image c n
       → Answered (performed c (pastWords (s .offset) n) (fetching (1 + n) s) m image)
   unfolding rowIs
-  performed-call command.Load n row ready =
-      let judges = load-judges (s .windows) _ _ in
-      load-call ready (section-judges s image _ judges) (test-failed _ (ends refusal.Overflow refl) judges)
+  performed-call command.Load n row ready = every-load s m image n ready
   performed-call command.Fill n row ready = every-command s m image n .fill ready _ _ _
   performed-call command.BootTable n row ready = every-command s m image n .setting ready _ _ _ _
   performed-call command.Enable n row ready = every-command s m image n .enable ready

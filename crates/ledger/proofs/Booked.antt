@@ -1,5 +1,5 @@
--- The totals go on as the account does: an opcode that settles a Request marks where the fold marks the Request that stands before it, and 18 and 25 keep the
--- counts within their 32 bits and the numbers below the first that no command gets.
+-- The totals go on as the account does: an opcode as `Account.antt` has it; 18 and 25 keep the counts within their 32 bits and the numbers below the first
+-- that no command gets.
 use Prim.Native.Nat.{ℕ, _+_}
 use mathlib.Core.Bool.{Bool, true, false}
 use mathlib.Core.List.{[], _∷_}
@@ -10,48 +10,19 @@ use borrow.Author.Tests.{ne-eqb}
 use Rattle.words.specs.rules.Choice.{pick}
 use Rattle.words.proofs.Choice.{passed}
 use Rattle.opcodes.specs.declared.Command.{Command}
-use Rattle.opcodes.specs.declared.Command.the-variants as command
 use Rattle.opcodes.specs.declared.Dialect.{Dialect}
 use Rattle.opcodes.specs.declared.Dialect.the-variants.{Am17xx, Dm648}
-use Rattle.ledger.specs.rules.Totals.{wouldPass, firstSpent, isSpent, counted, following, numbered, settled, turned, inFlash}
-use Rattle.ledger.specs.claims.Account.{section, load, piece, setting, other, oneSection, oneNumber, Account, account, numbersTold}
+use Rattle.ledger.specs.rules.Totals.{wouldPass, firstSpent, isSpent, counted, following, numbered, turned, inFlash}
+use Rattle.ledger.specs.claims.Account.{section, load, piece, setting, oneSection, oneNumber, Account, account, numbersTold}
 use Rattle.ledger.specs.claims.Booked.{standingOf, nextOf, totalsOf, Leads, byMark, opcodeAct, happenedAct, Room, AllBooked}
 use Rattle.ledger.specs.declared.Happening.{Happening}
 use Rattle.ledger.specs.declared.Happening.the-variants as happening
 use Rattle.ledger.specs.declared.Standing.{Standing}
 use Rattle.ledger.specs.declared.Totals.{Totals}
+use Rattle.ledger.proofs.Account.{opcode-leads}
 use Rattle.ledger.proofs.Laws.{counts-on}
 
 module _ (dialect : Dialect) (numbering : Bool) (a : Account) where
-  -- an opcode that is not to the mark settles
-  settled-leads : (asks : Bool) → Leads dialect numbering a asks (other ∷ []) (settled (totalsOf dialect numbering a asks)) false
-  unfolding account numbersTold pick
-  settled-leads true =
-      record { there = record { now = a .now; mark = a .now }; totals = refl; goes-on = λ later. refl; tells-on = λ later. refl }
-  settled-leads false = record { there = a; totals = refl; goes-on = λ later. refl; tells-on = λ later. refl }
-
-  opcode-leads : (asks : Bool) (c : Command)
-      → Leads dialect numbering a asks (opcodeAct c ∷ []) (turned c (totalsOf dialect numbering a asks)) (byMark c false true false false)
-  unfolding account numbersTold pick
-  opcode-leads asks command.Load = settled-leads asks
-  opcode-leads asks command.Fill = settled-leads asks
-  opcode-leads asks command.BootTable = settled-leads asks
-  opcode-leads true command.Enable =
-      record { there = record { now = a .now; mark = a .now }; totals = refl; goes-on = λ later. refl; tells-on = λ later. refl }
-  opcode-leads false command.Enable =
-      record { there = record { now = a .now; mark = a .now }; totals = refl; goes-on = λ later. refl; tells-on = λ later. refl }
-  opcode-leads asks command.Disable = settled-leads asks
-  opcode-leads true command.Request =
-      record { there = record { now = a .now; mark = a .now }; totals = refl; goes-on = λ later. refl; tells-on = λ later. refl }
-  opcode-leads false command.Request = record { there = a; totals = refl; goes-on = λ later. refl; tells-on = λ later. refl }
-  opcode-leads true command.StartOver =
-      record { there = record { now = a .mark; mark = a .mark }; totals = refl; goes-on = λ later. refl; tells-on = λ later. refl }
-  opcode-leads false command.StartOver =
-      record { there = record { now = a .mark; mark = a .mark }; totals = refl; goes-on = λ later. refl; tells-on = λ later. refl }
-  opcode-leads asks command.JumpAndClose = settled-leads asks
-  opcode-leads asks command.Ping = settled-leads asks
-  opcode-leads asks command.SequentialRead = settled-leads asks
-
   abbrev totals : Totals
   totals = totalsOf dialect numbering a false
 

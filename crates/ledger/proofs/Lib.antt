@@ -1,3 +1,4 @@
+pub mod Account
 pub mod Agreement
 pub mod Attempts
 pub mod Booked

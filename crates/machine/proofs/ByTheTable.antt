@@ -108,6 +108,12 @@ module _ (k : Core) (m : List ℕ) (opcode : ℕ) {command : Command} where
       let waits = opcode-waits (length rest) idle known in
       rw (waits .core, waits .memory) (arguments-done command (begun command k) m noneKept word rest)
 
+-- three words shift out all that was kept before them
+last-kept : (before : Kept) (first second third : ℕ)
+    → keptAfter before (first ∷ second ∷ third ∷ []) ≡ record { first = first; second = second; third = third }
+unfolding keptAfter
+last-kept before first second third = refl
+
 pub by-the-table : ByTheTable
 by-the-table =
     record {
@@ -117,4 +123,5 @@ by-the-table =
           let first = opcode-waits k m opcode (length arguments + left) idle (known ∙ ap (Known command) (sym (all ∙ count))) in
           let last = arguments-wait _ _ m noneKept _ left arguments (length arguments + left) refl first in
           (last .core, last .memory);
+      kept = last-kept;
     }

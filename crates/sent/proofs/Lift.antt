@@ -19,7 +19,7 @@ use Rattle.opcodes.specs.declared.Refusal.{Refusal}
 use Rattle.opcodes.specs.declared.Refusal.the-variants as refusal
 use Rattle.sent.specs.rules.Bus.{unitBits, unitsInWord, unitsOf, firstUnit, pushed}
 use Rattle.sent.specs.rules.Feeding.{State, Heard, next, fed, answers, NoneRefused}
-use Rattle.sent.specs.claims.Lift.{atWord, silent, heardWord, Plain, Ready, UnitsAreTheWord, Absorbed, Lines}
+use Rattle.sent.specs.claims.Lift.{atWord, silent, heardWord, Plain, Ready, UnitsAreTheWord, Absorbed, bootme, Lines}
 use Rattle.sent.specs.rules.Line.{UnitOutcome, plainly, carried, isStart, unitStep}
 use Rattle.machine_answers.specs.rules.Answers as machine
 use Rattle.machine.specs.rules.Machine.{wordStep}
@@ -193,6 +193,12 @@ unit-whole-units bus x u =
     (λ h. of-choice (InUnits bus) _ (λ h. silence-whole bus)
     (λ h. words-whole bus _ (every-word (x .session .core) (x .memory) _ .words))))))
 
+greeting-opening : (dialect : Dialect) (count : ℕ) (windows : List Window) → openedBy Bytes dialect count windows .refusal ≡ refusal.None
+    → sentBytes (openedBy Bytes dialect count windows .reply) ≡ bootme
+unfolding openedBy
+greeting-opening dialect count windows =
+    of-choice (λ (o : Opened). (o .refusal ≡ refusal.None → sentBytes (o .reply) ≡ bootme)) _ (λ h e. absurd (omega (arith, ap codeOf e))) (λ h e. refl)
+
 silent-opening : (dialect : Dialect) (count : ℕ) (windows : List Window) → sentBytes (openedBy Halves dialect count windows .reply) ≡ []
 unfolding openedBy
 silent-opening dialect count windows = of-choice (λ (o : Opened). sentBytes (o .reply) ≡ []) _ (λ h. refl) (λ h. refl)
@@ -205,5 +211,6 @@ lines =
       absorbs = absorbed;
       unlent = unlent;
       whole-units = unit-whole-units;
+      greets = greeting-opening;
       no-greeting = silent-opening;
     }

@@ -49,3 +49,6 @@ pub record ByTheTable : Type 0 where
       → k .stage .phase ≡ Opcode → lookedUp opcode Sent (k .dialect) ≡ Known command words → length arguments + suc left ≡ words
       → (afterWords (wordStep k m opcode) arguments .answer .core ≡ asking (begun command k) command (suc left) (keptAfter noneKept arguments))
       × (afterWords (wordStep k m opcode) arguments .memory ≡ m)
+  -- the three that came last are kept, in the order in which they came
+  pub kept : (before : Kept) (first second third : ℕ)
+      → keptAfter before (first ∷ second ∷ third ∷ []) ≡ record { first = first; second = second; third = third }

@@ -1,5 +1,6 @@
 -- The units of a word are the word, on either line. So what is stated of words holds of all that a line carries.
 use Prim.Native.Nat.{ℕ, _-_, _/_, _%_, _^_, _<_}
+use Prim.Native.Char.{code}
 use mathlib.Core.Bool.{true, false}
 use mathlib.Core.List.{List, [], _∷_, _++_}
 use mathlib.Core.Logic.{_≢_}
@@ -19,7 +20,7 @@ use Rattle.sent.specs.rules.Opening.{openedBy}
 use Rattle.machine_answers.specs.rules.Replies.{silence, sentBytes}
 use Rattle.machine.specs.claims.Every.{EveryWord}
 use Rattle.sent.specs.declared.Bus.{Bus}
-use Rattle.sent.specs.declared.Bus.the-variants.{Halves}
+use Rattle.sent.specs.declared.Bus.the-variants.{Bytes, Halves}
 use Rattle.machine_answers.specs.declared.Core.{Core}
 use Rattle.machine_answers.specs.declared.Taken.{Taken}
 
@@ -66,6 +67,10 @@ pub record Absorbed (bus : Bus) (x : State) (units : List ℕ) (q : Refusal) : T
   pub stays : fed bus x units ≡ x
   pub hears : answers bus x units ≡ replicate (length units) (refusedBy q)
 
+-- BOOTME, letter by letter
+abbrev pub bootme : List ℕ
+bootme = code "B" ∷ code "O" ∷ code "O" ∷ code "T" ∷ code "M" ∷ code "E" ∷ []
+
 -- what holds of either line
 pub record Lines : Type 0 where
   pub lift : (bus : Bus) (k : Core) (m : List ℕ) (word : ℕ) → Ready bus k m word → UnitsAreTheWord bus k m word
@@ -76,5 +81,7 @@ pub record Lines : Type 0 where
       → Absorbed bus x units Memory
   -- a reply is whole units: on the line of halves the count of its bytes is even
   pub whole-units : (bus : Bus) (x : State) (unit : ℕ) → heard bus x unit .reply .count % (unitBits bus / 8) ≡ 0
-  -- the line of halves has no greeting
+  -- an opening on the line of bytes that is not refused says BOOTME; the line of halves has no greeting
+  pub greets : (dialect : Dialect) (count : ℕ) (windows : List Window) → openedBy Bytes dialect count windows .refusal ≡ None
+      → sentBytes (openedBy Bytes dialect count windows .reply) ≡ bootme
   pub no-greeting : (dialect : Dialect) (count : ℕ) (windows : List Window) → sentBytes (openedBy Halves dialect count windows .reply) ≡ []
