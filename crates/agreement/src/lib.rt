@@ -1,4 +1,6 @@
 // One image run from flash and sent by line, and what the two leave compared.
+#![tactic(auto)]
+
 ghost use Rattle.std.specs.Prelude.{◌≡◌, length};
 ghost use Rattle.words.specs.rules.Choice.{pick};
 ghost use Rattle.event_room.specs.rules.Room.{place_after, room_after};
@@ -16,7 +18,7 @@ use sent::Bus;
 
 // How a flash run ended: the code of its refusal or 0, the offset of its last command, its retries, the event of its last call, and how many bytes of the room
 // hold events.
-#[derive(Drop)]
+#[derive(Clone, Copy)]
 pub struct FlashEnd {
     pub code: u8,
     pub at: u32,
@@ -26,14 +28,14 @@ pub struct FlashEnd {
 }
 
 // How many words of two memories differ, and the address of the first.
-#[derive(Drop)]
+#[derive(Clone, Copy)]
 pub struct Difference {
     pub words: u32,
     pub first: u32,
 }
 
 // What a comparison tells: how the flash run and the exchange ended, and where the memories that they left differ.
-#[derive(Drop)]
+#[derive(Clone, Copy)]
 pub struct Compared {
     pub flash: FlashEnd,
     pub line: Exchanged,

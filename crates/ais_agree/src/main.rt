@@ -1,5 +1,7 @@
 // The agreement program: reads an image on standard input, runs it from flash and sends it by line, and writes what the two come to. The arguments are the
 // dialect, am17xx or dm648, the line, bytes or halves, and the retry limit; without them they are am17xx, bytes and 0.
+#![tactic(auto)]
+
 use agreement::{Compared, Difference, FlashEnd};
 use digits::Number;
 use exchange::Exchanged;

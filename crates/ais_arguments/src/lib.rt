@@ -1,4 +1,6 @@
 // What a person gives a program: the arguments, as numbers and as words.
+#![tactic(auto)]
+
 use digits::Number;
 
 // The number that an argument is.

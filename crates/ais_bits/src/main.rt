@@ -1,5 +1,7 @@
 // The bits program: reads an image on standard input, runs it, and tells which command wrote each bit of the words that its arguments name. Before the words
 // may stand `register`, the name of a register file and a release, by whose fields the bits are named.
+#![tactic(auto)]
+
 mod answers;
 
 ghost use Rattle.std.specs.Prelude.{◌*◌, ◌≤◌, length};

@@ -1,4 +1,6 @@
 // The check program: reads an image on standard input and writes what becomes of it, in six lines. With an argument the image is a DM648's, else an AM17xx's.
+#![tactic(auto)]
+
 use checking::Report;
 use libc::STDIN_FILENO;
 use opcodes::Dialect;

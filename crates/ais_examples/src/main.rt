@@ -1,4 +1,6 @@
 // The images of source 000 and the examples of 01, in flash and in sent mode; the stored output is what those two say.
+#![tactic(auto)]
+
 mod cases;
 mod sessions;
 mod texts;

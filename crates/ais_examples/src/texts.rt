@@ -8,9 +8,9 @@ use opcodes::Dialect;
 // What reading a text and writing its image answer, and the digits that come back.
 fn turn(name: &[u8], digits: &[u8], image: &mut [u8], back: &mut [u8]) {
     ais_printing::put_text_line(b"text=", name);
-    let read = hex::read(digits, image);
+    let read = hex_text::read(digits, image);
     ais_printing::put_number_line(b"read=", read.code() as u64);
-    let written = hex::write(image, back);
+    let written = hex_text::write(image, back);
     ais_printing::put_number_line(b"written=", written.code() as u64);
     ais_printing::put_text_line(b"digits=", back);
     ais_printing::put(b"\n");
@@ -57,7 +57,7 @@ pub fn figures() {
 // The answer alone, and what the room then holds.
 fn read_into(name: &[u8], digits: &[u8], room: &mut [u8]) {
     ais_printing::put_text_line(b"text=", name);
-    let read = hex::read(digits, room);
+    let read = hex_text::read(digits, room);
     ais_printing::put_number_line(b"read=", read.code() as u64);
     ais_printing::put(b"room=");
     text::listed(room);

@@ -1,5 +1,7 @@
 // Counts the words that an image on standard input fetches, and writes them next to the most that it may. The argument is the retry limit; without one no
 // retry is allowed, as in the check program.
+#![tactic(auto)]
+
 use checking::{Counted, Limit};
 use libc::STDIN_FILENO;
 

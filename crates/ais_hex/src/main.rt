@@ -1,4 +1,6 @@
 // Writes an image, read on standard input, out as text; a refusal goes to standard error.
+#![tactic(auto)]
+
 use ais_printing::say;
 use libc::STDIN_FILENO;
 use opcodes::Refusal;
@@ -12,7 +14,7 @@ fn main() {
     let mut image = [0u8; 65540];
     let n = io::read_full(STDIN_FILENO, &mut image);
     let mut text = [0u8; 131072];
-    let converted = hex::conversions::to_text(&image[..n], &mut text);
+    let converted = hex_text::conversions::to_text(&image[..n], &mut text);
     let refusal = converted.refusal;
     let length = converted.length;
     match refusal {

@@ -1,4 +1,6 @@
 // What programs write: bytes, numbers, words and names on standard output, and complaints on standard error.
+#![tactic(auto)]
+
 pub mod registers;
 
 use libc::{STDERR_FILENO, STDOUT_FILENO};

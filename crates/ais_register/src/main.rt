@@ -1,4 +1,6 @@
 // The register program: reads a register on standard input, and answers the question that its arguments ask, in the register's own words.
+#![tactic(auto)]
+
 mod answers;
 mod text;
 

@@ -1,4 +1,6 @@
 // The survey program: reads the names of images on standard input, one to a line, and writes a line for each and the totals.
+#![tactic(auto)]
+
 ghost use Rattle.std.specs.Prelude.{◌≤◌, length};
 ghost use Rattle.io.specs.Counts.{IsPrefixLen};
 
@@ -28,13 +30,13 @@ fn put_totals(totals: SurveyTotals) {
 }
 
 // Which byte of what was read of the list is next, and how many were read.
-#[derive(Drop)]
+#[derive(Clone, Copy)]
 struct Place {
     at: usize,
     have: usize,
 }
 
-#[derive(Drop)]
+#[derive(Clone, Copy)]
 enum Next {
     Byte(u8, Place),
     End,
@@ -70,7 +72,7 @@ fn keep(name: &mut [u8], kept: usize, byte: u8) -> usize
 }
 
 // Is there another line, how many bytes of it stand in the room for a name, and where does the list go on?
-#[derive(Drop)]
+#[derive(Clone, Copy)]
 struct Found {
     another: bool,
     kept: usize,
@@ -111,7 +113,7 @@ fn read_name(list: &mut [u8], from: Place, name: &mut [u8]) -> Found
 }
 
 // Could a file be read, and how many bytes of it stand in the room?
-#[derive(Drop)]
+#[derive(Clone, Copy)]
 struct Contents {
     readable: bool,
     have: usize,

@@ -1,5 +1,7 @@
 // The images of source 000 from flash as a DM648's, with their totals and with others, and a run whose totals would pass the largest. The stored output is
 // what 000 and 02 say.
+#![tactic(auto)]
+
 use ais_transcripts::images;
 use ais_transcripts::runs::{Flip, Setting};
 use flash_session::{Called, Session};

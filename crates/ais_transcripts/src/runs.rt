@@ -6,14 +6,14 @@ use windows::Window;
 use words::Unit;
 
 // A bit that reads wrongly: offset of its word, bit, and how many retries heal it; 0 where none does.
-#[derive(Drop)]
+#[derive(Clone, Copy)]
 pub enum Flip {
     None,
     Bit(usize, u32, u8),
 }
 
 // The window's first address, what memory holds before, how many bytes are shown, the retry limit and the flipped bits.
-#[derive(Drop)]
+#[derive(Clone, Copy)]
 pub struct Setting {
     pub first: u32,
     pub background: u8,

@@ -1,4 +1,6 @@
 // Writes the image of a text that is read on standard input; a refusal goes to standard error.
+#![tactic(auto)]
+
 use ais_printing::say;
 use libc::STDIN_FILENO;
 use opcodes::Refusal;
@@ -12,7 +14,7 @@ fn main() {
     let mut text = [0u8; 131080];
     let n = io::read_full(STDIN_FILENO, &mut text);
     let mut image = [0u8; 65536];
-    let converted = hex::conversions::to_image(&text[..n], &mut image);
+    let converted = hex_text::conversions::to_image(&text[..n], &mut image);
     let refusal = converted.refusal;
     let length = converted.length;
     match refusal {

@@ -1,4 +1,6 @@
 // The bench's entries for C: whole sessions on byte slices, answered by one number.
+#![tactic(auto)]
+
 pub mod events;
 pub mod hosts;
 pub mod registers;
@@ -6,7 +8,7 @@ pub mod registers;
 ghost use Rattle.std.specs.Prelude.{◌≡◌, ◌+◌, ◌*◌, ◌/◌, ◌^◌, ◌≤◌};
 ghost use Rattle.words.specs.rules.Choice.{pick};
 ghost use Rattle.opcodes.specs.rules.Answers.{code_of};
-ghost use Rattle.hex.specs.rules.Text.{read_answer, read_room, write_answer, write_room};
+ghost use Rattle.hex_text.specs.rules.Text.{read_answer, read_room, write_answer, write_room};
 ghost use Rattle.bench_sessions.specs.rules.Feeding.{outcome, sent_session, line_session};
 ghost use Rattle.bench_sessions.specs.rules.Numbers.{watched, bits_session};
 ghost use Rattle.bench.specs.rules.Bits.{bits_from, bits_run};
@@ -254,7 +256,7 @@ pub extern "C" fn ais_hex_read(text: &[u8], image: &mut [u8]) -> u8
     ensures value { result ≡ code_of (read_answer text.now image.old) }
     ensures image_after { image.new ≡ read_room text.now image.old }
 {
-    let refusal = hex::read(text, image);
+    let refusal = hex_text::read(text, image);
     refusal.code()
 }
 
@@ -264,6 +266,6 @@ pub extern "C" fn ais_hex_write(image: &[u8], text: &mut [u8]) -> u8
     ensures value { result ≡ code_of (write_answer image.now text.old) }
     ensures text_after { text.new ≡ write_room image.now text.old }
 {
-    let refusal = hex::write(image, text);
+    let refusal = hex_text::write(image, text);
     refusal.code()
 }

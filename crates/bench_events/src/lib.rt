@@ -1,4 +1,6 @@
 // Flash runs and exchanges for C with their events: each event two words in lent room, and one number.
+#![tactic(auto)]
+
 ghost use Rattle.std.specs.Prelude.{◌≡◌, ◌+◌, ◌*◌, ◌/◌, ◌%◌, ◌^◌, min};
 ghost use Rattle.opcodes.specs.rules.Answers.{code_of};
 ghost use Rattle.flash_session.specs.rules.Opening.{longest};

@@ -1,4 +1,6 @@
 // The host for C: a host as 41 bytes, its calls on them, and whole exchanges of a host and a loader.
+#![tactic(auto)]
+
 pub mod layout;
 
 ghost use Rattle.std.specs.Prelude.{◌≡◌, ◌*◌, ◌^◌, ◌<◌};

@@ -1,4 +1,6 @@
 // Whole sent sessions on lent bytes: units fed one after the other, replies laid into a room, and the numbers of chosen bits beside (02, request 6).
+#![tactic(auto)]
+
 pub mod maps;
 
 ghost use Rattle.std.specs.Prelude.{◌≡◌, ◌+◌, ◌*◌, ◌/◌, ◌%◌, ◌^◌, ◌≤◌, eqb, length, take};

@@ -1,4 +1,6 @@
 // Words chosen for their bits to be watched (02, request 6): which lists of them are taken, and where each word lies in the lent memory.
+#![tactic(auto)]
+
 ghost use Rattle.std.specs.Prelude.{◌≡◌, ◌-◌, ◌≤◌, length};
 ghost use Rattle.windows.specs.claims.Touching.{one_grants};
 ghost use Rattle.bit_choice.specs.rules.Chosen.{may_be_chosen, among, addresses_from, all_fit, good_choice, word_place, places_of, chosen_of, taken, not_taken};
@@ -11,14 +13,14 @@ use windows::{Place, Right, Window};
 pub const MOST_CHOSEN: usize = 64;
 
 // The chosen words: how many they are, and the place of each in the lent memory.
-#[derive(Drop)]
+#[derive(Clone, Copy)]
 pub struct Chosen {
     pub count: usize,
     pub places: [usize; 64],
 }
 
 // A list that is taken, and the words of it; or why it is refused, and none.
-#[derive(Drop)]
+#[derive(Clone, Copy)]
 pub struct Choice {
     pub refusal: Refusal,
     pub chosen: Chosen,

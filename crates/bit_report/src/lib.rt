@@ -1,4 +1,6 @@
 // What is told of the bits of chosen words (02, request 6): which command wrote each last, what that command is, and which fields of a release it writes.
+#![tactic(auto)]
+
 ghost use Rattle.std.specs.Prelude.{◌≡◌, ◌+◌, ◌-◌, ◌*◌, ◌/◌, ◌%◌, ◌^◌, ◌≤◌, ◌<◌, leb, ltb};
 ghost use Rattle.bit_stamps.specs.rules.Stamps.{word_bits_below, entry_at};
 ghost use Rattle.bit_report.specs.rules.Lowest.{lowest_in};
@@ -12,21 +14,21 @@ use field_register::{FoundLine, Register};
 use opcodes::{Command, Dialect, Mode};
 
 // A register and the release that bits are named by.
-#[derive(Drop)]
+#[derive(Clone, Copy)]
 pub struct Names {
     pub register: Register,
     pub release: u32,
 }
 
 // A chosen word: which of the list it is, and its address.
-#[derive(Drop)]
+#[derive(Clone, Copy)]
 pub struct Word {
     pub index: u32,
     pub address: u32,
 }
 
 // What is told of a bit: the number of the command that wrote it last, 0 for none, the offset of that command, and the bit's field.
-#[derive(Drop)]
+#[derive(Clone, Copy)]
 pub struct Told {
     pub number: u32,
     pub at: u32,
@@ -34,7 +36,7 @@ pub struct Told {
 }
 
 // Bits of a word, from the first to the last, of which the same is told, and their value.
-#[derive(Drop)]
+#[derive(Clone, Copy)]
 pub struct Part {
     pub start: u32,
     pub stop: u32,
@@ -42,7 +44,7 @@ pub struct Part {
     pub told: Told,
 }
 
-#[derive(Drop)]
+#[derive(Clone, Copy)]
 pub enum Kind {
     Load,
     Fill,
@@ -51,7 +53,7 @@ pub enum Kind {
 }
 
 // A command, and the bits of a chosen word that it writes: from one on up to before another.
-#[derive(Drop)]
+#[derive(Clone, Copy)]
 pub struct Deed {
     pub kind: Kind,
     pub from: u32,

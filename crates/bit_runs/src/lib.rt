@@ -1,5 +1,7 @@
 // The run that the bits program tells of (02, request 6): an image in the check program's window, and beside the chosen words two rows of entries. In one
 // stands the number of the command that wrote each bit last, in the other that command's offset in the image.
+#![tactic(auto)]
+
 ghost use Rattle.std.specs.Prelude.{◌≡◌};
 ghost use Rattle.bit_runs.specs.rules.Runs.{not_chosen, ended, left_by};
 
@@ -8,7 +10,7 @@ use flash_session::{Called, Session};
 use opcodes::Dialect;
 
 // How the run ended, and the chosen words. Where they are refused nothing is run.
-#[derive(Drop)]
+#[derive(Clone, Copy)]
 pub struct Traced {
     pub chosen: bool,
     pub entered: bool,

@@ -1,4 +1,6 @@
 // The numbers beside chosen words of memory (02, request 6): which command wrote each of their bits last.
+#![tactic(auto)]
+
 ghost use Rattle.std.specs.Prelude.{◌≡◌, ℕ, ◌+◌, ◌-◌, ◌*◌, ◌%◌, ◌^◌, ◌≤◌, ◌<◌, min, take};
 ghost use Rattle.words.specs.rules.Bytes.{byte, put};
 ghost use Rattle.commands.specs.rules.Wrote.{first_bit};

@@ -1,4 +1,6 @@
 // A sent session with the numbers of its chosen bits beside it (02, request 6): the plain step, then what it tells that it wrote is stamped.
+#![tactic(auto)]
+
 ghost use Rattle.std.specs.Prelude.{◌≡◌, get_or, take};
 ghost use Rattle.sent.specs.rules.Bus.{units_fed};
 ghost use Rattle.sent.specs.rules.Line.{unit_step};

@@ -1,4 +1,6 @@
 // What the check program decides, and what is told of the words that an image fetches: it is opened and run, and reported.
+#![tactic(auto)]
+
 ghost use Rattle.std.specs.Prelude.{◌≡◌};
 ghost use Rattle.flash_session.specs.rules.Opening.{opened_by};
 ghost use Rattle.checking.specs.rules.Counting.{most_of, counted_of};
@@ -10,7 +12,7 @@ use flash_session::{Called, Opened, Session};
 use opcodes::Dialect;
 use windows::Window;
 
-#[derive(Drop)]
+#[derive(Clone, Copy)]
 pub struct Report {
     pub entered: bool,
     pub code: u8,
@@ -21,7 +23,7 @@ pub struct Report {
 }
 
 // The refusal or 0, the words fetched, and the most that may be.
-#[derive(Drop)]
+#[derive(Clone, Copy)]
 pub struct Counted {
     pub code: u8,
     pub fetched: u32,
@@ -29,7 +31,7 @@ pub struct Counted {
 }
 
 // A retry limit that was given, or a text that is none.
-#[derive(Drop)]
+#[derive(Clone, Copy)]
 pub enum Limit {
     Of(u8),
     Wrong,

@@ -1,4 +1,6 @@
 // The checksum: bits go in one at a time, the highest first.
+#![tactic(auto)]
+
 ghost use Rattle.std.specs.Prelude.{◌≡◌, ◌*◌, ◌<◌, ◌≤◌, min};
 ghost use Rattle.checksum.specs.rules.Checksum.{fed_bit, fed};
 

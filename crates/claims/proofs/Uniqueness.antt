@@ -105,14 +105,14 @@ use Rattle.digits.proofs.decimal.Reads as decimal
 use Rattle.digits.proofs.hexadecimal.Reads as hexadecimal
 use Rattle.digits.proofs.given.Reads as given
 use Rattle.digits.proofs.last_digit.Reads as last-digit
-use Rattle.hex.proofs.read.Reads as read
-use Rattle.hex.proofs.write.Reads as written
+use Rattle.hex_text.proofs.read.Reads as read
+use Rattle.hex_text.proofs.write.Reads as written
 use Rattle.bench.proofs.ais_dm648_run.Reads as ais-dm648-run
 use Rattle.bench.proofs.ais_flash_run.Reads as ais-flash-run
 use Rattle.bench.proofs.ais_hex_read.Reads as ais-hex-read
 use Rattle.bench.proofs.ais_hex_write.Reads as ais-hex-write
-use Rattle.hex.proofs.conversions.to_text.Reads as to-text
-use Rattle.hex.proofs.conversions.to_image.Reads as to-image
+use Rattle.hex_text.proofs.conversions.to_text.Reads as to-text
+use Rattle.hex_text.proofs.conversions.to_image.Reads as to-image
 use Rattle.port.specs.declared.Told.{Told}
 
 module _ {K : Type 0} {A R E : K → Type 0} (Post : (κs : K) → A κs → R κs → E κs → Type 0) where

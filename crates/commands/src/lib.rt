@@ -1,4 +1,6 @@
 // What a command does once its words are known, in either mode: judged first, then done. A refused command changes nothing.
+#![tactic(auto)]
+
 ghost use Rattle.std.specs.Prelude.{◌≡◌, ◌*◌, false, [], ◌∷◌};
 ghost use Rattle.words.specs.rules.Bytes.{size_of};
 ghost use Rattle.words.specs.rules.Choice.{pick};
@@ -13,14 +15,14 @@ use windows::{Place, Right, Window};
 use words::Unit;
 
 // Whether a command is granted, and where in the lent memory.
-#[derive(Drop)]
+#[derive(Clone, Copy)]
 pub enum Judged {
     Granted(usize),
     Refused(Refusal),
 }
 
 // The answer to a command.
-#[derive(Drop)]
+#[derive(Clone, Copy)]
 pub struct Done {
     pub refusal: Refusal,
     pub event: Event,
@@ -28,21 +30,21 @@ pub struct Done {
 }
 
 // A type that is a unit of 1, 2 or 4 bytes, or another.
-#[derive(Drop)]
+#[derive(Clone, Copy)]
 pub enum UnitType {
     Of(Unit),
     Other,
 }
 
 // Which bits of which unit a Boot Table command sets: a unit, its first bit, how many, and whether they are a field.
-#[derive(Drop)]
+#[derive(Clone, Copy)]
 pub enum Shape {
     Bits(Unit, u32, u32, bool),
     Wrong,
 }
 
 // The bits of memory that a command wrote, and its number: from bit `start` of the byte at `place` on, `count` of them.
-#[derive(Drop)]
+#[derive(Clone, Copy)]
 pub struct Wrote {
     pub place: usize,
     pub count: usize,
@@ -51,7 +53,7 @@ pub struct Wrote {
 }
 
 // Where a seek leads.
-#[derive(Drop)]
+#[derive(Clone, Copy)]
 pub enum Sought {
     To(u32),
     Refused(Refusal),

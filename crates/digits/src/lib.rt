@@ -1,10 +1,12 @@
 // Digits of a base, ten or sixteen: the number that a text of digits makes, a number as a person gives it, and the digit of a value.
+#![tactic(auto)]
+
 ghost use Rattle.std.specs.Prelude.{◌≡◌, ◌%◌, ◌≤◌, ◌<◌, ◌^◌};
 ghost use Rattle.digits.specs.rules.Digits.{digit_value, digit_of};
 ghost use Rattle.digits.specs.rules.Numbers.{number_up_to, is_marked, given_of};
 
 // The number that a text makes, if it makes one.
-#[derive(Drop)]
+#[derive(Clone, Copy)]
 pub enum Number {
     Is(u32),
     Wrong,

@@ -1,4 +1,6 @@
 // Events written into lent room, two words each: kind and value, little-endian, one after the other.
+#![tactic(auto)]
+
 ghost use Rattle.std.specs.Prelude.{◌≡◌, length};
 ghost use Rattle.opcodes.specs.rules.Answers.{told};
 ghost use Rattle.event_room.specs.rules.Room.{place_after, room_after};

@@ -1,4 +1,6 @@
 // A host and a loader on one line, every reply heard before the host's next turn, the loader's events told in lent room.
+#![tactic(auto)]
+
 mod feeding;
 
 ghost use Rattle.std.specs.Prelude.{◌≡◌, [], length};
@@ -13,7 +15,7 @@ use windows::Window;
 
 // What an exchange comes to: the code of the host's first refusal, its retries, the code of the loader's first refusal but 14, the last event, and how many
 // bytes of the room hold events.
-#[derive(Drop)]
+#[derive(Clone, Copy)]
 pub struct Exchanged {
     pub refusal: u8,
     pub retries: u8,
@@ -23,7 +25,7 @@ pub struct Exchanged {
 }
 
 // What stands between turns: the host, the loader, the last event, the codes of their first refusals, and the place of the next event in the room.
-#[derive(Drop)]
+#[derive(Clone, Copy)]
 pub struct Standing {
     pub host: Host,
     pub session: sent::Session,

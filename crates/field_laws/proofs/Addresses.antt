@@ -14,10 +14,10 @@ use Rattle.digits.specs.rules.Digits.{digit_value, is_digit, digit_of}
 use Rattle.digits.specs.rules.Numbers.{are_digits, number_of}
 use Rattle.digits.proofs.Digits.{by_value, no_digit, capital_value, small_value}
 use Rattle.digits.proofs.Numbers.{number_lt}
-use Rattle.hex.specs.claims.RoundTrip.{capital}
-use Rattle.hex.specs.rules.Digits.{digit_at, digits_of}
-use Rattle.hex.proofs.Back.{digit_back, are-digits, word_back}
-use Rattle.hex.proofs.Turning.{digits_length}
+use Rattle.hex_text.specs.claims.RoundTrip.{capital}
+use Rattle.hex_text.specs.rules.Digits.{digit_at, digits_of}
+use Rattle.hex_text.proofs.Back.{digit_back, are-digits, word_back}
+use Rattle.hex_text.proofs.Turning.{digits_length}
 use Rattle.field_lines.specs.rules.Text.{is_address}
 use Rattle.field_laws.proofs.Decimals.{same_values}
 

@@ -16,7 +16,7 @@ use Rattle.digits.specs.rules.Digits.{digit_value, is_digit, digit_of}
 use Rattle.digits.specs.rules.Numbers.{are_digits, number_of}
 use Rattle.digits.proofs.Digits.{by_digit, value_small, digit_number}
 use Rattle.digits.proofs.Numbers.{digits_append, number_append, number_lt}
-use Rattle.hex.proofs.Back.{value_back}
+use Rattle.hex_text.proofs.Back.{value_back}
 use Rattle.field_lines.specs.rules.Text.{zero_leads, is_decimal}
 use Rattle.field_laws.specs.claims.WellFormed.{decimal, written}
 

@@ -16,8 +16,8 @@ use Rattle.digits.specs.declared.Number.{Number}
 use Rattle.digits.specs.declared.Number.TheVariants.{Is}
 use Rattle.digits.proofs.Digits.{by_digit, value_small}
 use Rattle.digits.proofs.Numbers.{digit_in}
-use Rattle.hex.specs.claims.RoundTrip.{capital}
-use Rattle.hex.specs.rules.Digits.{digits_of}
+use Rattle.hex_text.specs.claims.RoundTrip.{capital}
+use Rattle.hex_text.specs.rules.Digits.{digits_of}
 use Rattle.field_lines.specs.rules.Pairs.{value_at, number_pair, decimal_in, decimal_pair, word_in, word_pair, field_in, field_pair}
 use Rattle.field_lines.specs.rules.Text.{bytes_of, part, between, is_decimal, decimal_of, is_address, address_of, are_letters, is_name, padded, name_of}
 use Rattle.field_lines.specs.declared.Name.{Name}

@@ -1,4 +1,6 @@
 // A line of the register of option fields: how it is read from a text, what it names in a release, and when two lines clash.
+#![tactic(auto)]
+
 ghost use Rattle.std.specs.Prelude.{◌&&◌, ◌≡◌, ◌+◌, ◌≤◌, ◌<◌, ◌^◌, length};
 ghost use Rattle.field_lines.specs.rules.Text.{same as sameBytes, zero_leads, decimal_of, address_of, no_name, name_of};
 ghost use Rattle.field_lines.specs.rules.Pairs.{stands as keyStands, value_at, wrong as wrongPair, number_pair, decimal_pair, word_pair, field_pair};
@@ -8,7 +10,7 @@ ghost use Rattle.field_lines.specs.rules.Clashes.{lasts as lineLasts, in_force, 
 use digits::Number;
 
 // A field of a word, and the releases that have it: from since on up to until, 0 where it is still in force.
-#[derive(Drop)]
+#[derive(Clone, Copy)]
 pub struct FieldLine {
     pub name: [u8; 16],
     pub word: u32,
@@ -19,7 +21,7 @@ pub struct FieldLine {
 }
 
 // What stands at a place of a text: a line, if it is one, and where the next begins.
-#[derive(Drop)]
+#[derive(Clone, Copy)]
 pub struct Parsed {
     pub good: bool,
     pub line: FieldLine,
@@ -27,7 +29,7 @@ pub struct Parsed {
 }
 
 // A pair whose value is a number, if it is one, and where the next begins.
-#[derive(Drop)]
+#[derive(Clone, Copy)]
 pub struct Pair {
     pub good: bool,
     pub value: u32,
@@ -35,21 +37,21 @@ pub struct Pair {
 }
 
 // A name, if it is one: its letters, and zeros behind them.
-#[derive(Drop)]
+#[derive(Clone, Copy)]
 pub struct Name {
     pub good: bool,
     pub name: [u8; 16],
 }
 
 // The pair that names the field, and where the next begins.
-#[derive(Drop)]
+#[derive(Clone, Copy)]
 pub struct Named {
     pub name: Name,
     pub next: usize,
 }
 
 // Where the value of a pair lies in the text.
-#[derive(Drop)]
+#[derive(Clone, Copy)]
 pub enum Value {
     From(usize, usize),
     Missing,

@@ -1,4 +1,6 @@
 // The register of option fields: its text read into lines, and what it answers.
+#![tactic(auto)]
+
 ghost use Rattle.std.specs.Prelude.{◌≡◌, ◌≤◌, ◌<◌, take};
 ghost use Rattle.field_lines.specs.declared.FieldLine.{FieldLine as LineOf};
 ghost use Rattle.commands.specs.rules.Commands.{width_of};
@@ -11,7 +13,7 @@ ghost use Rattle.field_register.specs.rules.Commands.{words_for, not_made, comma
 use field_lines::{FieldLine, Name};
 
 // Why a text or a question is refused; `None` where it is not.
-#[derive(Drop)]
+#[derive(Clone, Copy)]
 pub enum FieldRefusal {
     None,
     Room,
@@ -41,14 +43,14 @@ impl FieldRefusal {
 pub const MOST_LINES: usize = 200;
 
 // So many lines; those past the count are none.
-#[derive(Drop)]
+#[derive(Clone, Copy)]
 pub struct Register {
     pub count: usize,
     pub lines: [FieldLine; 200],
 }
 
 // What becomes of a text: a register, or a refusal with the number of its line and an empty register.
-#[derive(Drop)]
+#[derive(Clone, Copy)]
 pub struct Reading {
     pub refusal: FieldRefusal,
     pub line: usize,
@@ -56,7 +58,7 @@ pub struct Reading {
 }
 
 // What is asked about: a name, or a bit of a word.
-#[derive(Drop)]
+#[derive(Clone, Copy)]
 pub struct Subject {
     pub named: bool,
     pub name: [u8; 16],
@@ -65,21 +67,21 @@ pub struct Subject {
 }
 
 // The line that answers, if there is one.
-#[derive(Drop)]
+#[derive(Clone, Copy)]
 pub struct FoundLine {
     pub found: bool,
     pub line: FieldLine,
 }
 
 // What a subject is up to a release, 0 for no end.
-#[derive(Drop)]
+#[derive(Clone, Copy)]
 pub struct Stretch {
     pub found: FoundLine,
     pub last: u32,
 }
 
 // The five words of a Boot Table command, or why there are none.
-#[derive(Drop)]
+#[derive(Clone, Copy)]
 pub struct Setting {
     pub refusal: FieldRefusal,
     pub words: [u32; 5],

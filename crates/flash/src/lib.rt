@@ -1,4 +1,6 @@
 // Flash mode: the script is a lent image, one command a call.
+#![tactic(auto)]
+
 ghost use Rattle.std.specs.Prelude.{◌≡◌, ◌+◌, ◌*◌, ◌^◌, ◌≤◌, ◌<◌, length};
 ghost use Rattle.reading.specs.rules.Reading.{data_words};
 ghost use Rattle.flash.specs.rules.Step.{load_answer, load_at, load_of, performed, step_of};

@@ -1,4 +1,6 @@
 // What each command but Load does in a flash session, its words given.
+#![tactic(auto)]
+
 ghost use Rattle.std.specs.Prelude.{◌≡◌, ◌<◌};
 ghost use Rattle.ledger.specs.rules.Totals.{would_pass, is_spent};
 ghost use Rattle.commands.specs.rules.Commands.{barred, sought_from};

@@ -1,1 +1,2 @@
 // What holds of every call of a flash session: there is no code here.
+#![tactic(auto)]

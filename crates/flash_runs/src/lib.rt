@@ -1,5 +1,7 @@
 // A run of one unchanged image from its opening, and beside chosen words two rows of entries (02, request 6). In one stands the number of the command that
 // wrote each bit last, in the other that command's offset in the image. Its events are written into lent room.
+#![tactic(auto)]
+
 ghost use Rattle.std.specs.Prelude.{◌≡◌, length, take};
 ghost use Rattle.bit_stamps.specs.rules.Stamps.{stamped};
 ghost use Rattle.event_room.specs.rules.Room.{place_after, room_after};
@@ -14,7 +16,7 @@ use flash_session::{Called, Opened, Session};
 use opcodes::Event;
 
 // What a run comes to: its last answer, and how many bytes of the room hold its events.
-#[derive(Drop)]
+#[derive(Clone, Copy)]
 pub struct Ran {
     pub called: Called,
     pub told: usize,

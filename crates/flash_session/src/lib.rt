@@ -1,4 +1,6 @@
 // A flash session: its opening, and the answers to a call.
+#![tactic(auto)]
+
 pub mod answers;
 mod opening;
 
@@ -12,7 +14,7 @@ use windows::Window;
 
 // A standing flash session. The windows past the map's count are all zero; `fetched` counts the words fetched since the opening, `totals` what a DM648 has
 // loaded.
-#[derive(Drop)]
+#[derive(Clone, Copy)]
 pub struct Session {
     pub windows: [Window; 8],
     pub checksum: u32,
@@ -27,14 +29,14 @@ pub struct Session {
     pub dialect: Dialect,
 }
 
-#[derive(Drop)]
+#[derive(Clone, Copy)]
 pub struct Opened {
     pub refusal: Refusal,
     pub session: Session,
 }
 
 // The answer to a call: `at` is the offset of the opcode, `wrote` the bits of memory that were written.
-#[derive(Drop)]
+#[derive(Clone, Copy)]
 pub struct Called {
     pub refusal: Refusal,
     pub event: Event,

@@ -1,5 +1,7 @@
 // The group controller's half of the line: a host that is told what it hears, byte by byte, and says turn by turn what goes out. The caller owns the line, the
 // clock and the script.
+#![tactic(auto)]
+
 mod greetings;
 mod meeting;
 mod replies;

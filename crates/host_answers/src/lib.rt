@@ -1,4 +1,6 @@
 // A host, the group controller's half of the line: its opening, what it hears, what goes out of it, and the answers to a turn.
+#![tactic(auto)]
+
 pub mod answers;
 pub mod sendings;
 
@@ -12,7 +14,7 @@ use sent::Bus;
 
 // What the host waits for: BOOTME, the answer to the start unit, Ping's acknowledgement, the echo of Ping's count (0) or of its word, nothing, so that the next
 // command is met, the acknowledgement of a command that ends at an offset, that of a Start-Over before an offset is sought, DONE.
-#[derive(Drop)]
+#[derive(Clone, Copy)]
 pub enum Wait {
     Greeting,
     Start,
@@ -25,13 +27,13 @@ pub enum Wait {
 }
 
 // A wait in a struct of its own, since an enum field is not assigned.
-#[derive(Drop)]
+#[derive(Clone, Copy)]
 pub struct Stage {
     pub wait: Wait,
 }
 
 // What goes out in a turn: nothing, the start unit, a word, or the stretch of the image from one offset to another.
-#[derive(Drop)]
+#[derive(Clone, Copy)]
 pub enum Sending {
     Nothing,
     Start,
@@ -41,7 +43,7 @@ pub enum Sending {
 
 // A standing host: the line and the dialect, the image's length, the tries of a wait, Ping's count and the retry limit, as its opening was told; whether it has
 // ended, the retries counted, the offset in the image, the tries spent in this wait, the wait and what was heard in it.
-#[derive(Drop)]
+#[derive(Clone, Copy)]
 pub struct Host {
     pub bus: Bus,
     pub dialect: Dialect,
@@ -57,14 +59,14 @@ pub struct Host {
     pub ear: Ear,
 }
 
-#[derive(Drop)]
+#[derive(Clone, Copy)]
 pub struct Opened {
     pub refusal: Refusal,
     pub host: Host,
 }
 
 // The answer to a turn.
-#[derive(Drop)]
+#[derive(Clone, Copy)]
 pub struct Turned {
     pub refusal: Refusal,
     pub sending: Sending,

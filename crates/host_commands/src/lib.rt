@@ -1,4 +1,6 @@
 // What the host does with a command whose opcode is out: at the acknowledgement its words go out, a Request's checksum is compared, a close ends the script.
+#![tactic(auto)]
+
 ghost use Rattle.std.specs.Prelude.{◌≡◌, ◌<◌};
 ghost use Rattle.commands.specs.rules.Commands.{sought_from};
 ghost use Rattle.host_answers.specs.rules.Hosts.{retrying};
@@ -9,7 +11,7 @@ use host_answers::{Host, Sending, Turned, Wait, answers, sendings};
 use opcodes::{Command, Dialect, Refusal};
 
 // What the host does with a command: it is passed over, it asks for the checksum, it closes, or its words go out.
-#[derive(Drop)]
+#[derive(Clone, Copy)]
 pub enum Role {
     Passed,
     Asks,

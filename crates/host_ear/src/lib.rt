@@ -1,4 +1,6 @@
 // What a host hears, and whether it ends with a reply of the loader's: the ear of the group controller's half of the line.
+#![tactic(auto)]
+
 ghost use Rattle.std.specs.Prelude.{◌&&◌, ◌≡◌, ◌+◌, ◌*◌, ◌/◌, ◌^◌, ◌≤◌, min, leb, eqb};
 ghost use Rattle.machine_answers.specs.rules.Replies.{one_word, acknowledged};
 ghost use Rattle.sent.specs.rules.Line.{start_answer};
@@ -8,7 +10,7 @@ ghost use Rattle.host_ear.specs.rules.Ear.{nothing_heard, hearing, looked_at, ne
 use sent::Bus;
 
 // What was heard since the wait began: the last eight bytes, the newest highest, how many came, eight at most, and whether one came since the last turn.
-#[derive(Drop)]
+#[derive(Clone, Copy)]
 pub struct Ear {
     pub last: u64,
     pub count: u8,

@@ -1,1 +1,2 @@
 // What holds of every turn of a host: there is no code here.
+#![tactic(auto)]

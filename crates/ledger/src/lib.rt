@@ -1,4 +1,6 @@
 // The running totals of a session and the numbers of its commands, their mark, and the Request that waits to be settled.
+#![tactic(auto)]
+
 ghost use Rattle.std.specs.Prelude.{◌≡◌};
 ghost use Rattle.ledger.specs.rules.Totals.{nothing, at_opening, from_one, is_past, would_pass, is_other, differs, one_more, with_now, counted, is_spent};
 ghost use Rattle.ledger.specs.rules.Totals.{following, numbered, marked, settled, asking, put_back, turned, in_flash};
@@ -6,15 +8,15 @@ ghost use Rattle.ledger.specs.rules.Totals.{following, numbered, marked, settled
 use opcodes::{Command, Dialect};
 
 // How many sections were loaded.
-#[derive(Drop)]
+#[derive(Clone, Copy)]
 pub struct Sections(pub u32);
 
 // How many bytes were loaded.
-#[derive(Drop)]
+#[derive(Clone, Copy)]
 pub struct Bytes(pub u32);
 
 // What stands at a point of a session.
-#[derive(Drop)]
+#[derive(Clone, Copy)]
 pub struct Standing {
     pub sections: Sections,
     pub bytes: Bytes,
@@ -22,7 +24,7 @@ pub struct Standing {
 
 // What stands now and what stood at the mark; `asked` while a Request stands unsettled. `next` is the number of the next command, `back` what it was at the
 // mark; both are 0 where no numbers are kept.
-#[derive(Drop)]
+#[derive(Clone, Copy)]
 pub struct Totals {
     pub now: Standing,
     pub mark: Standing,
@@ -33,7 +35,7 @@ pub struct Totals {
 
 // What a flash call that is accepted may be to the totals: a load or a fill of so many bytes, a setting, an Enable, a Request that matches, one that leads to a
 // retry, any other command.
-#[derive(Drop)]
+#[derive(Clone, Copy)]
 pub enum Happening {
     Section(u32),
     Setting,

@@ -1,4 +1,6 @@
 // The word machine of sent mode: what a whole word does, by the phase that awaits it. It knows nothing of how the word arrived.
+#![tactic(auto)]
+
 mod opening;
 
 ghost use Rattle.std.specs.Prelude.{◌≡◌};
@@ -11,7 +13,7 @@ use opcodes::{Command, Dialect, Found, Mode, Refusal};
 
 // What a word is for. Refused: an opcode that is not taken. Command: whether it is the opcode, the command, how many words are to come, those kept, and the
 // argument that it is.
-#[derive(Drop)]
+#[derive(Clone, Copy)]
 pub enum Purpose {
     Refused(Refusal),
     Command(bool, Command, u32, Kept, u32),

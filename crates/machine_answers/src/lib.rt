@@ -1,4 +1,6 @@
 // What a word of sent mode may change, and the answers to a word: refused, said, with what was written, done, entered.
+#![tactic(auto)]
+
 pub mod counts;
 
 ghost use Rattle.std.specs.Prelude.{◌≡◌};
@@ -11,14 +13,14 @@ use opcodes::{Command, Dialect, Event, Refusal};
 use windows::Window;
 
 // What Start-Over takes back.
-#[derive(Drop)]
+#[derive(Clone, Copy)]
 pub struct Tally {
     pub checksum: u32,
     pub totals: Totals,
 }
 
 // The last three argument words of a command that came before its last, the latest third.
-#[derive(Drop)]
+#[derive(Clone, Copy)]
 pub struct Kept {
     pub third: u32,
     pub second: u32,
@@ -27,7 +29,7 @@ pub struct Kept {
 
 // What the word machine awaits next, with what it needs to know then. Argument: of which command, how many are left, and those kept. Data: the place past
 // the range, and the bytes left. Echo: how many words are left.
-#[derive(Drop)]
+#[derive(Clone, Copy)]
 pub enum Phase {
     Opcode,
     Argument(Command, u32, Kept),
@@ -36,13 +38,13 @@ pub enum Phase {
 }
 
 // A phase in a struct of its own, since an enum field is not assigned.
-#[derive(Drop)]
+#[derive(Clone, Copy)]
 pub struct Stage {
     pub phase: Phase,
 }
 
 // What a word may change: the windows and the dialect stay. `begun` says that an opcode has been acknowledged.
-#[derive(Drop)]
+#[derive(Clone, Copy)]
 pub struct Core {
     pub windows: [Window; 8],
     pub dialect: Dialect,
@@ -54,14 +56,14 @@ pub struct Core {
 }
 
 // At most eight bytes for the host.
-#[derive(Drop)]
+#[derive(Clone, Copy)]
 pub struct Reply {
     pub bytes: [u8; 8],
     pub count: u32,
 }
 
 // The answer to a whole word; `wrote` is the bits of memory that were written.
-#[derive(Drop)]
+#[derive(Clone, Copy)]
 pub struct Taken {
     pub refusal: Refusal,
     pub reply: Reply,

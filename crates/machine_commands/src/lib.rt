@@ -1,4 +1,6 @@
 // What a command does with its words in sent mode: the last three that were kept, and the last.
+#![tactic(auto)]
+
 ghost use Rattle.std.specs.Prelude.{◌≡◌, []};
 ghost use Rattle.ledger.specs.rules.Totals.{standing};
 ghost use Rattle.machine_answers.specs.rules.Answers.{changed, await, with_checksum, said, quiet};

@@ -1,4 +1,6 @@
 // Load: its size word, and its data words.
+#![tactic(auto)]
+
 ghost use Rattle.std.specs.Prelude.{◌≡◌, [], ◌∷◌, ◌+◌, ◌-◌, ◌*◌, ◌≤◌, min};
 ghost use Rattle.words.specs.rules.Choice.{pick};
 ghost use Rattle.checksum.specs.rules.Checksum.{fed, fed_words};

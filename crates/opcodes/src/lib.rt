@@ -1,11 +1,13 @@
 // The words of an Application Image Script: opcode rows, refusal numbers and events.
+#![tactic(auto)]
+
 ghost use Rattle.std.specs.Prelude.{◌≡◌};
 ghost use Rattle.words.specs.rules.Choice.{pick};
 ghost use Rattle.opcodes.specs.rules.Answers.{code_of, kind_of, value_of};
 ghost use Rattle.opcodes.specs.rules.Opcodes.{in_mode, in_dialect, row_serves, looked_up};
 
 // Why a call is refused; `None` where it is not.
-#[derive(Drop)]
+#[derive(Clone, Copy)]
 pub enum Refusal {
     None,
     Map,
@@ -70,7 +72,7 @@ impl Refusal {
 }
 
 // What the caller is asked to do, since nothing is executed here.
-#[derive(Drop)]
+#[derive(Clone, Copy)]
 pub enum Event {
     Nothing,
     Wait(u32),
@@ -102,20 +104,20 @@ impl Event {
 }
 
 // How the words of a script arrive.
-#[derive(Drop)]
+#[derive(Clone, Copy)]
 pub enum Mode {
     Sent,
     Flash,
 }
 
 // The board family that a script is written for.
-#[derive(Drop)]
+#[derive(Clone, Copy)]
 pub enum Dialect {
     Am17xx,
     Dm648,
 }
 
-#[derive(Drop)]
+#[derive(Clone, Copy)]
 pub enum Command {
     Load,
     Fill,
@@ -130,7 +132,7 @@ pub enum Command {
 }
 
 // A row of the opcode table: how many argument words follow, and the modes and dialects that allow it.
-#[derive(Drop)]
+#[derive(Clone, Copy)]
 pub struct Row {
     pub opcode: u32,
     pub command: Command,
@@ -256,7 +258,7 @@ pub const ROWS: [Row; 12] = [
 pub const RETIRED: u32 = 0x5853_5905;
 
 // What the table says of a word where an opcode is awaited.
-#[derive(Drop)]
+#[derive(Clone, Copy)]
 pub enum Found {
     Known(Command, u32),
     Retired,

@@ -1,4 +1,6 @@
 // The port: a standing session, lent with the memory, takes one byte a call.
+#![tactic(auto)]
+
 ghost use Rattle.sent.specs.rules.Line.{unit_step};
 ghost use Rattle.sent.specs.declared.Bus.TheVariants.{Bytes};
 ghost use Rattle.port.specs.rules.Port.{is_given};
@@ -8,7 +10,7 @@ use opcodes::{Event, Refusal};
 use sent::Session;
 
 // The answer to a byte, without the session.
-#[derive(Drop)]
+#[derive(Clone, Copy)]
 pub struct Told {
     pub refusal: Refusal,
     pub reply: Reply,
@@ -16,7 +18,7 @@ pub struct Told {
 }
 
 // The session after a byte, and what is told.
-#[derive(Drop)]
+#[derive(Clone, Copy)]
 pub struct Fed {
     pub session: Session,
     pub told: Told,

@@ -1,4 +1,6 @@
 // Reading a command in an image: what stands at an offset, as flash mode reads it.
+#![tactic(auto)]
+
 ghost use Rattle.std.specs.Prelude.{◌≡◌, ◌+◌, ◌≤◌, length};
 ghost use Rattle.reading.specs.rules.Reading.{present, argument, data_words, data_size, past_data, read_as, read_at};
 
@@ -6,7 +8,7 @@ use opcodes::{Command, Dialect, Found, Mode, Refusal};
 
 // What stands at an offset of an image: a command whose words are all there, with the count of its argument words; or why there is none, with the count of the
 // words that were fetched to see it.
-#[derive(Drop)]
+#[derive(Clone, Copy)]
 pub enum Read {
     Whole(Command, u32),
     Refused(Refusal, u32),

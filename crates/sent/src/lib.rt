@@ -1,4 +1,6 @@
 // Sent mode: a host feeds units over a line, bytes or halves of a word; so many make a word, and the word machine takes whole words.
+#![tactic(auto)]
+
 ghost use Rattle.std.specs.Prelude.{◌≡◌, [], true, ◌+◌, ◌-◌, ◌*◌, ◌^◌, ◌<◌, eqb, get_or, replicate};
 ghost use Rattle.words.specs.rules.Choice.{pick};
 ghost use Rattle.checksum.specs.rules.Checksum.{fed};
@@ -20,14 +22,14 @@ use opcodes::{Dialect, Event, Refusal};
 use windows::Window;
 
 // A line by its unit of transfer: bytes, or halves of a word.
-#[derive(Drop)]
+#[derive(Clone, Copy)]
 pub enum Bus {
     Bytes,
     Halves,
 }
 
 // What the line has gathered: whether the start unit was answered, and the units of an unfinished word.
-#[derive(Drop)]
+#[derive(Clone, Copy)]
 pub struct Line {
     pub started: bool,
     pub have: u8,
@@ -35,14 +37,14 @@ pub struct Line {
 }
 
 // A standing sent session.
-#[derive(Drop)]
+#[derive(Clone, Copy)]
 pub struct Session {
     pub core: Core,
     pub line: Line,
 }
 
 // The answer to a unit, likewise.
-#[derive(Drop)]
+#[derive(Clone, Copy)]
 pub struct Answer {
     pub refusal: Refusal,
     pub reply: Reply,
@@ -52,7 +54,7 @@ pub struct Answer {
 }
 
 // The answer to an opening, with the greeting where it is not refused.
-#[derive(Drop)]
+#[derive(Clone, Copy)]
 pub struct Opened {
     pub refusal: Refusal,
     pub reply: Reply,

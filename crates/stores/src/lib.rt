@@ -1,4 +1,6 @@
 // What loads and fills write at a place of the lent memory, and what the data of a load feed.
+#![tactic(auto)]
+
 ghost use Rattle.std.specs.Prelude.{◌≡◌, ℕ, ◌+◌, ◌*◌, ◌/◌, ◌%◌, ◌≤◌, min, leb, length};
 ghost use Rattle.words.specs.rules.Bytes.{byte, bytes_at, put, size_of};
 ghost use Rattle.words.specs.rules.Choice.{pick};

@@ -1,11 +1,13 @@
 // The release survey: what becomes of each image, a line an image, and the totals.
+#![tactic(auto)]
+
 ghost use Rattle.std.specs.Prelude.{◌≡◌};
 ghost use Rattle.survey.specs.rules.Images.{ended, absent, image_of, is_opened, set_of, unlike};
 ghost use Rattle.survey.specs.rules.Survey.{begun, is_full, entered_by, latest, line_of, including, totals_of};
 
 use opcodes::Dialect;
 
-#[derive(Drop)]
+#[derive(Clone, Copy)]
 pub enum Outcome {
     Entered,
     Refused,
@@ -13,14 +15,14 @@ pub enum Outcome {
 }
 
 // A named image: its outcome, and the option word that its run left.
-#[derive(Drop)]
+#[derive(Clone, Copy)]
 pub struct Image {
     pub outcome: Outcome,
     pub word: u32,
 }
 
 // The survey so far: lines written, those entered, the sum of differ, and the last image that was opened.
-#[derive(Drop)]
+#[derive(Clone, Copy)]
 pub struct Survey {
     pub written: u32,
     pub entered: u32,
@@ -28,7 +30,7 @@ pub struct Survey {
     pub last: Image,
 }
 
-#[derive(Drop)]
+#[derive(Clone, Copy)]
 pub struct SurveyLine {
     pub image: u32,
     pub outcome: Outcome,
@@ -36,7 +38,7 @@ pub struct SurveyLine {
     pub differ: u32,
 }
 
-#[derive(Drop)]
+#[derive(Clone, Copy)]
 pub struct SurveyTotals {
     pub images: u32,
     pub entered: u32,

@@ -1,11 +1,13 @@
 // Windows: what a map grants, which maps are good, and where a granted range lies in the lent memory.
+#![tactic(auto)]
+
 ghost use Rattle.std.specs.Prelude.{◌≡◌, ◌≤◌, ◌<◌, leb, take, drop, set};
 ghost use Rattle.words.specs.rules.Choice.{pick};
 ghost use Rattle.windows.specs.rules.Window.{has_right, end_of, holds_address, grants_range, carries_on, place_of, sum_of};
 ghost use Rattle.windows.specs.rules.Map.{sound_window, sound_and_rising, good_map, kept_of, zero_window};
 
 // A stretch of addresses, and the sum of the numbers of its rights.
-#[derive(Drop)]
+#[derive(Clone, Copy)]
 pub struct Window {
     pub first: u32,
     pub length: u32,
@@ -13,7 +15,7 @@ pub struct Window {
 }
 
 // What a window may be used for.
-#[derive(Drop)]
+#[derive(Clone, Copy)]
 pub enum Right {
     Load,
     Set,
@@ -21,7 +23,7 @@ pub enum Right {
 }
 
 // Where a range lies in the lent memory.
-#[derive(Drop)]
+#[derive(Clone, Copy)]
 pub enum Place {
     At(usize),
     Nowhere,

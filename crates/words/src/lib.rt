@@ -1,10 +1,12 @@
 // Bytes, bits, little-endian numbers, and units of 1, 2 and 4 bytes at a place of a slice.
+#![tactic(auto)]
+
 ghost use Rattle.std.specs.Prelude.{◌≡◌, [], ◌∷◌, true, ◌+◌, ◌≤◌, ◌<◌, ◌^◌, length, take, get_or, set};
 ghost use Rattle.words.specs.rules.Bits.{bit, join, with_field};
 ghost use Rattle.words.specs.rules.Bytes.{byte, number, put, size_of, fits, field_fits, written, field_written, word_at};
 
 // A unit of 1, 2 or 4 bytes.
-#[derive(Drop)]
+#[derive(Clone, Copy)]
 pub enum Unit {
     One,
     Two,

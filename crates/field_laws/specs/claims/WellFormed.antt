@@ -3,8 +3,8 @@ use Rattle.std.specs.Prelude.{ℕ, zero, suc, ◌+◌, ◌-◌, ◌/◌, ◌%◌
 use Prim.Native.Char.{code}
 use Rattle.words.specs.rules.Choice.{pick}
 use Rattle.digits.specs.rules.Digits.{digit_of}
-use Rattle.hex.specs.claims.RoundTrip.{capital}
-use Rattle.hex.specs.rules.Digits.{digits_of}
+use Rattle.hex_text.specs.claims.RoundTrip.{capital}
+use Rattle.hex_text.specs.rules.Digits.{digits_of}
 use Rattle.field_lines.specs.rules.Clashes.{clash}
 use Rattle.field_lines.specs.rules.Lines.{line_at}
 use Rattle.field_lines.specs.rules.Text.{bytes_of}
