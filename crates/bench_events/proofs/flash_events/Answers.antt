@@ -1,0 +1,24 @@
+-- `bench_events::flash_events` meets its contract: refused before it begins, or the run with its events told.
+use borrow.Author.Rules.{rules}
+use mathlib.Core.Path.{sym, ◌∙◌}
+use native.Mathlib.Omega.{arith}
+use Rattle.bench_events.proofs.Telling.{flash_unknown, flash_short, flash_ran}
+use Rattle.bench_events.proofs.flash_events.Goals as goal
+
+pub returns-then-dialect-gt1 : goal.returns-then-dialect-gt1
+returns-then-dialect-gt1 c =
+    let a = c.args in
+    flash_unknown a.dialect a.map.now a.memory.now a.image.now a.limit a.room.now c.if-dialect-gt1.true c.refuse.ensures
+
+pub returns-then-is_short : goal.returns-then-is_short
+returns-then-is_short c =
+    let a = c.args in
+    flash_short a.dialect a.map.now a.memory.now a.image.now a.limit a.room.now (omega (arith, c.if-dialect-gt1.false))
+    (sym c.is_short.ensures ∙ c.if-is_short.true) c.refuse-then-is_short.ensures
+
+pub returns : goal.returns
+returns c =
+    let a = c.args in
+    flash_ran a.dialect a.map.now a.memory.now a.image.now a.limit a.room.now (omega (arith, c.if-dialect-gt1.false))
+    (sym c.is_short.ensures ∙ c.if-is_short.false) c.dialect_of.ensures c.count_of.ensures
+    c.windows_of.ensures c.open-opened.ensures c.run_told-ran.ensures c.code.ensures c.value_of.ensures

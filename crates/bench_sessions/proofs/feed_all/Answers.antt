@@ -1,0 +1,104 @@
+-- `bench_sessions::feed_all` meets its contract: what is left to feed, laid down from where the loop stands, gives the same end, and so do the numbers. The
+-- room is long enough since each unit fed pays for its part of a reply, and what is gathered of a word is not yet spent.
+use borrow.Author.Rules.{rules}
+use Prim.Native.Nat.{◌+◌, ◌-◌, ◌*◌, ◌≤◌, ◌<◌}
+use mathlib.Core.Path.{◌≡◌, refl, sym, ◌∙◌}
+use native.Mathlib.Omega.{arith}
+use lib.Dec.{lit≤}
+use lib.ListN.{length, take, drop, get_or}
+use Rattle.machine_answers.specs.rules.Replies.{sent_bytes}
+use Rattle.sent.specs.rules.Bus.{units_fed}
+use Rattle.bench_sessions.specs.rules.Feeding.{opening_room, unit_room}
+use Rattle.bench_sessions.proofs.Fitting.{one_more, nothing_held, step_pays, room_left, room_small}
+use Rattle.bench_sessions.proofs.Reaching.{leads, fed_turn, delivers}
+use Rattle.bench_sessions.proofs.SessionCases.{units_count}
+use Rattle.bench_sessions.proofs.feed_all.Goals as goal
+
+pub loop-i-init : goal.loop-i-init
+loop-i-init c =
+    let bus = c.args.bus in
+    let short = c.requires.0.1 in
+    let laid = c.put_reply-count.ensures.value in
+    let held : unit_room bus * c.args.session.line.have ≡ 0 = rw c.requires.0.0 (nothing_held bus) in (
+      omega arith,
+      c.units_in-n.ensures ∙ sym (units_count bus c.args.fed.now),
+      refl,
+      refl,
+      refl,
+      search rules,
+      omega (arith, laid, short, nothing_held bus, room_small bus 0 (lit≤ tt)),
+      omega (arith, laid, short, held, nothing_held bus),
+      refl,
+    )
+
+pub put_reply-count-requires-in-loop-i : goal.put_reply-count-requires-in-loop-i
+put_reply-count-requires-in-loop-i c =
+    let loop = c.loop-i in
+    let bus = c.args.bus in
+    let units = length (units_fed bus c.args.fed.now) in
+    let left = room_left bus loop.i units (omega (arith, loop.invariant.0, loop.invariant.1)) in
+    omega (arith, loop.invariant.3, loop.invariant.7, left, c.put_reply-count.auto, c.requires.1.1)
+
+pub overflow_add-i : goal.overflow_add-i
+overflow_add-i c =
+    omega (
+      arith,
+      c.loop-i-test,
+      c.loop-i.invariant.1,
+      c.requires.1.0,
+    )
+
+pub loop-i-smaller : goal.loop-i-smaller
+loop-i-smaller c = omega (arith, c.loop-i-test)
+
+pub loop-i-preserved : goal.loop-i-preserved
+loop-i-preserved c =
+    let a = c.args in
+    let bus = a.bus in
+    let units = units_fed bus a.fed.now in
+    let loop = c.loop-i in
+    let test = c.loop-i-test.true in
+    let step = c.step_at-answer in
+    let laid = c.put_reply-count-in-loop-i in
+    let first = c.first_of-first in
+    let inside : loop.i < length units = omega (arith, test, loop.invariant.1) in
+    let answered = step.ensures.0 in
+    let remembered = step.ensures.1.0 in
+    let pays : length (sent_bytes step.result.reply) + unit_room bus * step.result.session.line.have
+    ≤ unit_room bus * loop.live.line.have + unit_room bus =
+    rw answered (step_pays bus loop.live loop.memory (get_or units loop.i 0)) in
+    let more = one_more bus loop.i in
+    let small = room_small bus (loop.i + 1) (omega (arith, inside, c.requires.1.0)) in (
+      omega (arith, test),
+      loop.invariant.1,
+      omega (arith, step.auto, loop.invariant.2),
+      omega (arith, laid.auto, loop.invariant.3),
+      omega (arith, step.auto, loop.invariant.4),
+      omega (arith, first.type-inv),
+      omega (arith, laid.ensures.0, pays, loop.invariant.7, more, small),
+      omega (arith, laid.ensures.0, pays, loop.invariant.7, more),
+      fed_turn loop.room loop.count loop.first bus (take a.chosen a.places.now) loop.live loop.memory loop.numbers units loop.i
+          inside answered remembered step.ensures.1.1 laid.ensures.1 laid.ensures.0 first.ensures ∙ loop.invariant.8,
+    )
+
+pub shape_of-memory : goal.shape_of-memory
+shape_of-memory c = c.loop-i.invariant.2
+
+pub shape_of-room : goal.shape_of-room
+shape_of-room c = omega (arith, c.loop-i.invariant.3, c.put_reply-count.auto)
+
+pub shape_of-numbers : goal.shape_of-numbers
+shape_of-numbers c = c.loop-i.invariant.4
+
+pub returns : goal.returns
+returns c =
+    let a = c.args in
+    let bus = a.bus in
+    let units = units_fed bus a.fed.now in
+    let loop = c.loop-i in
+    let laid = c.put_reply-count in
+    let end : loop.i ≡ length units = omega (arith, c.loop-i-test, loop.invariant.0, loop.invariant.1) in
+    delivers bus (take a.chosen a.places.now) a.room.now (record { session = a.session; memory = a.memory.now }) a.opening a.numbers.now
+    units c.requires.0.0 c.requires.0.1 c.requires.1.1 (record { session = loop.live; memory = loop.memory }) loop.room loop.count
+    loop.first
+    loop.numbers loop.i end (loop.invariant.8 ∙ rw (laid.ensures.1, laid.ensures.0)) (omega arith)

@@ -1,0 +1,29 @@
+-- `bit_choice::places_of` meets its contract: the places set so far, and those of the words that are left set after them, are the places of all.
+use Prim.Native.Nat.{◌-◌, ◌≤◌}
+use mathlib.Core.List.{map}
+use mathlib.Core.Path.{◌≡◌, ◌∙◌}
+use lib.ListN.{length}
+use lib.Seq.{sets}
+use Rattle.bit_choice.specs.rules.Chosen.{addresses_from, word_place, places_of}
+use Rattle.bit_choice.proofs.Choosing.{left, places_start, places_on, places_end}
+use borrow.Author.Rules.{rules}
+use Rattle.bit_choice.proofs.places_of.Goals as goal
+
+pub loop-i-init : goal.loop-i-init
+loop-i-init c = (search rules, search rules, places_start _ _ _)
+
+pub loop-i-preserved : goal.loop-i-preserved
+loop-i-preserved c =
+    let a = c.args in (
+      search rules,
+      search rules,
+      places_on a.bytes.now a.count c.loop-i.i (search rules) c.word_at-address.result c.word_at-address.ensures a.windows
+          c.loop-i.places c.place_of-place.result c.place_of-place.ensures
+          ∙ c.loop-i.invariant.2,
+    )
+
+pub returns : goal.returns
+returns c =
+    let a = c.args in
+    let l = c.loop-i in
+    places_end a.bytes.now a.count l.i a.windows (search rules) l.places ∙ l.invariant.2

@@ -1,0 +1,27 @@
+-- `event_room::tell` meets its contract: nothing to tell, no room for it, or its two words written one after the other.
+use borrow.Author.Rules.{rules}
+use mathlib.Core.Path.{sym, ◌∙◌}
+use native.Mathlib.Omega.{arith}
+use Rattle.event_room.proofs.Writing.{tells_nothing, tells_none, tells_one}
+use Rattle.event_room.proofs.tell.Goals as goal
+
+pub returns-then-kind-eq0 : goal.returns-then-kind-eq0
+returns-then-kind-eq0 c =
+    let a = c.args in
+    tells_nothing a.room.now a.place a.event (sym c.kind-kind.ensures ∙ c.if-kind-eq0.true)
+
+pub returns-then-room-lt8 : goal.returns-then-room-lt8
+returns-then-room-lt8 c =
+    let a = c.args in
+    tells_none a.room.now a.place a.event (λ e. c.if-kind-eq0.false (c.kind-kind.ensures ∙ e)) (omega arith)
+
+pub returns-then-room-place : goal.returns-then-room-place
+returns-then-room-place c =
+    let a = c.args in
+    tells_none a.room.now a.place a.event (λ e. c.if-kind-eq0.false (c.kind-kind.ensures ∙ e)) (omega arith)
+
+pub returns : goal.returns
+returns c =
+    let a = c.args in
+    tells_one a.room.now a.place a.event (λ e. c.if-kind-eq0.false (c.kind-kind.ensures ∙ e)) (omega arith)
+    c.kind-kind.ensures c.value.ensures c.write.ensures.m_after c.write-2.ensures.m_after

@@ -1,0 +1,53 @@
+-- `flash_runs::run` meets its contract: the calls that are left lead to the same outcome, the same numbers and offsets and the same room as all of them.
+use Prim.Native.Nat.{◌+◌, ◌/◌, ◌^◌}
+use mathlib.Core.Path.{◌≡◌, refl, sym, ◌∙◌}
+use native.Mathlib.Nat.{mul-le-mul}
+use native.Mathlib.Omega.{arith}
+use borrow.Author.Tests.{not_true, not_false}
+use lib.ListN.{length, take}
+use borrow.Author.Rules.{rules}
+use Rattle.event_room.specs.rules.Room.{place_after, room_after}
+use Rattle.flash.specs.rules.Step.{step_of}
+use Rattle.flash_runs.specs.rules.Entries.{number_wrote, offset_wrote, stamps_on, run_stamps}
+use Rattle.flash_runs.specs.rules.Events.{events_on, run_events}
+use Rattle.flash_runs.specs.rules.Run.{carried_on, run_of}
+use Rattle.flash_runs.proofs.Running.{spent, stops, Leads, leads_on, leads_last}
+use Rattle.flash_runs.proofs.run.Goals as goal
+
+pub overflow_mul-left : goal.overflow_mul-left
+overflow_mul-left c =
+    let session = c.args.session in
+    omega (arith, mul-le-mul {n₁ = session.limit + 1} {m₁ = session.length / 4} {n₂ = 256} {m₂ = 2 ^ 30} (omega arith) (omega arith))
+
+pub loop-left-init : goal.loop-left-init
+loop-left-init c =
+    (search rules, search rules, search rules, search rules, record { outcome = refl; by_number = refl; by_offset = refl; by_place = refl; by_event = refl })
+
+pub returns-then-left-eq0 : goal.returns-then-left-eq0
+unfolding run_of run_stamps run_events
+returns-then-left-eq0 c =
+    let call = c.call-called.ensures in
+    let loop = c.loop-left in
+    leads_last _ _ loop.live loop.memory call.value call.memory_after loop.left _ call.1.1 c.tell-place.ensures loop.invariant.4
+    (spent c.if-left-eq0.true)
+
+pub returns-then-not-goes_on : goal.returns-then-not-goes_on
+unfolding run_of run_stamps run_events
+returns-then-not-goes_on c =
+    let call = c.call-called.ensures in
+    let loop = c.loop-left in
+    let over = sym c.goes_on.ensures ∙ not_true _ c.if-not-goes_on.true in
+    leads_last _ _ loop.live loop.memory call.value call.memory_after loop.left _ call.1.1 c.tell-place.ensures loop.invariant.4 (stops over)
+
+pub loop-left-preserved : goal.loop-left-preserved
+loop-left-preserved c =
+    let call = c.call-called.ensures in
+    let loop = c.loop-left in
+    let more = sym c.goes_on.ensures ∙ not_false _ c.if-not-goes_on.false in (
+      search rules,
+      search rules,
+      search rules,
+      search rules,
+      leads_on _ _ loop.live loop.memory call.value call.memory_after loop.left _ call.1.1 c.tell-place.ensures loop.invariant.4
+          c.if-left-eq0.false more,
+    )

@@ -1,0 +1,46 @@
+-- `flash_runs::run_from` meets its contract: each way is one side of the choice.
+use mathlib.Core.List.{List}
+use mathlib.Core.Path.{sym, ap, ◌∙◌}
+use lib.ListN.{length}
+use borrow.Author.Tests.{eq-eqb, ne_eqb}
+use Rattle.words.proofs.Choice.{chosen, passed}
+use Rattle.opcodes.specs.declared.Event.{Event}
+use Rattle.event_room.specs.rules.Room.{place_after, room_after}
+use Rattle.flash_session.specs.rules.Sessions.{CallOutcome}
+use Rattle.flash_runs.specs.rules.Entries.{stamps_from}
+use Rattle.flash_runs.specs.rules.Events.{events_from}
+use Rattle.flash_runs.specs.rules.Run.{ran_from}
+use borrow.Author.Rules.{rules}
+use Rattle.flash_runs.proofs.run_from.Goals as goal
+
+pub returns-then-code-eq0 : goal.returns-then-code-eq0
+unfolding ran_from stamps_from events_from
+returns-then-code-eq0 c =
+    let a = c.args in
+    let opens = eq-eqb _ _ (sym c.code.ensures ∙ c.if-code-eq0.true) in
+    let whole = sym (chosen _ _ _ opens) in
+    let events = sym (chosen _ _ _ opens) in
+    let room = a.room.now in
+    let run = c.run.ensures in
+    let beside = run.1.1 in record { called_value = run.called_value ∙ ap (λ (o : CallOutcome). o.answer) whole; memory_after = run.memory_after ∙ ap (λ (o : CallOutcome). o.memory) whole; numbers_after = beside.0 ∙ sym (chosen _ _ _ opens); offsets_after = beside.1.0 ∙ sym (chosen _ _ _ opens); told_value = beside.1.1.0 ∙ ap (λ (es : List Event). place_after (length room) 0 es) events; room_after = beside.1.1.1 ∙ ap (λ (es : List Event). room_after room 0 es) events }
+
+pub returns : goal.returns
+unfolding ran_from stamps_from events_from place_after room_after
+returns c =
+    let room = c.args.room.now in
+    let refused = ne_eqb _ _ (λ e. c.if-code-eq0.false (c.code.ensures ∙ e)) in
+    let none = sym (passed _ _ _ refused) in
+    let events = sym (passed _ _ _ refused) in
+    rw c.wrote_none-wrote.ensures ((
+      ap (λ (o : CallOutcome). o.answer) none,
+      (
+        ap (λ (o : CallOutcome). o.memory) none,
+        (
+          sym (passed _ _ _ refused),
+          (
+            sym (passed _ _ _ refused),
+            (ap (λ (es : List Event). place_after (length room) 0 es) events, ap (λ (es : List Event). room_after room 0 es) events),
+          ),
+        ),
+      ),
+    ))

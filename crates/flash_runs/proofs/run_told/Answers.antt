@@ -1,0 +1,8 @@
+-- `flash_runs::run_told` meets its contract: it is the run with no word watched.
+use borrow.Author.Rules.{rules}
+use Rattle.flash_runs.proofs.run_told.Goals as goal
+
+pub returns : goal.returns
+returns c =
+    let run = c.run_from.ensures in
+    (run.called_value, (run.memory_after, run.1.1.1.1))

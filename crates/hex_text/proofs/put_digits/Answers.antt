@@ -1,0 +1,20 @@
+-- `hex_text::put_digits` meets its contract: eight stores in a row are the eight digits.
+use Rattle.std.proofs.Common.{arith, length-set, rules}
+use native.Mathlib.Numerals.{towards_suc}
+use Rattle.hex_text.specs.rules.Digits.{digits_of}
+use Rattle.hex_text.proofs.put_digits.Goals as goal
+
+pub returns : goal.returns
+unfolding digits_of
+returns c =
+    rw (
+      c.digit_at-8.ensures,
+      c.digit_at-7.ensures,
+      c.digit_at-6.ensures,
+      c.digit_at-5.ensures,
+      c.digit_at-4.ensures,
+      c.digit_at-3.ensures,
+      c.digit_at-2.ensures,
+      c.digit_at.ensures,
+    )
+    (simp towards_suc)

@@ -1,0 +1,26 @@
+-- `hex_text::write` meets its contract: its tests are those of the definition in their order, and the words are written only where both are passed.
+use Rattle.std.proofs.Common.{refl, ◌∙◌, arith, rules}
+use Rattle.hex_text.proofs.Refusing.{left_refused, left_done, write_length, write_narrow, write_done}
+use Rattle.hex_text.proofs.Turning.{text_length}
+use Rattle.hex_text.proofs.write.Goals as goal
+
+pub returns-then-image-ne0 : goal.returns-then-image-ne0
+returns-then-image-ne0 c = left_refused _ _ (write_length _ _ c.if-image-ne0.true) refl
+
+pub returns-then-room-image : goal.returns-then-room-image
+returns-then-room-image c =
+    let a = c.args in
+    let whole = text_length a.image.now in
+    left_refused _ _ (write_narrow a.image.now a.room.now c.if-image-ne0.false (omega arith)) refl
+
+pub write_words-requires : goal.write_words-requires
+write_words-requires c =
+    let whole = text_length c.args.image.now in
+    omega arith
+
+pub returns : goal.returns
+returns c =
+    let a = c.args in
+    let whole = text_length a.image.now in
+    let done = left_done _ _ (write_done a.image.now a.room.now c.if-image-ne0.false (omega arith)) in
+    record { value = done.0; room_after = c.write_words.ensures ∙ done.1 }

@@ -1,0 +1,14 @@
+-- `host::greetings::ping` meets its contract: the right answer is tested as in the definition.
+use borrow.Author.Rules.{rules}
+use mathlib.Core.Path.{sym, ◌∙◌}
+use Rattle.words.proofs.Choice.{chosen, passed}
+use Rattle.host_answers.specs.rules.Answers.{answered_by}
+use Rattle.host.proofs.greetings.ping.Goals as goal
+
+pub returns-then-acknowledges : goal.returns-then-acknowledges
+unfolding answered_by
+returns-then-acknowledges c = c.enter.ensures ∙ sym (chosen _ _ _ (sym c.acknowledges.ensures ∙ c.if-acknowledges.true))
+
+pub returns : goal.returns
+unfolding answered_by
+returns c = c.again.ensures ∙ sym (passed _ _ _ (sym c.acknowledges.ensures ∙ c.if-acknowledges.false))

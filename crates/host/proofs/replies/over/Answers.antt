@@ -1,0 +1,16 @@
+-- `host::replies::over` meets its contract: the right answer is tested as in the definition.
+use borrow.Author.Rules.{rules}
+use mathlib.Core.Path.{sym, ◌∙◌}
+use Rattle.words.proofs.Choice.{chosen, passed}
+use Rattle.host_answers.specs.rules.Answers.{answered_by}
+use Rattle.host.proofs.replies.over.Goals as goal
+
+pub returns-then-acknowledges : goal.returns-then-acknowledges
+unfolding answered_by
+returns-then-acknowledges c =
+    rw (c.send.ensures, c.go_to.ensures)
+    (sym (chosen _ _ _ (sym c.acknowledges.ensures ∙ c.if-acknowledges.true)))
+
+pub returns : goal.returns
+unfolding answered_by
+returns c = c.again.ensures ∙ sym (passed _ _ _ (sym c.acknowledges.ensures ∙ c.if-acknowledges.false))

@@ -1,0 +1,6 @@
+-- `host_answers::answers::go_to` meets its contract: it is the definition.
+use borrow.Author.Rules.{rules}
+use Rattle.host_answers.proofs.answers.go_to.Goals as goal
+
+pub returns : goal.returns
+returns c = rw (c.wait_for.ensures, c.at.ensures)

@@ -1,0 +1,6 @@
+-- `host_answers::shut` meets its contract: it is the definition.
+use borrow.Author.Rules.{rules}
+use Rattle.host_answers.proofs.shut.Goals as goal
+
+pub returns : goal.returns
+returns c = rw c.at_start.ensures

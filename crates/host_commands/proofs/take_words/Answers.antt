@@ -1,0 +1,18 @@
+-- `host_commands::take_words` meets its contract: the right answer is tested as in the definition.
+use borrow.Author.Rules.{rules}
+use mathlib.Core.Path.{sym, ◌∙◌}
+use Rattle.words.proofs.Choice.{chosen, passed}
+use Rattle.host_answers.specs.rules.Answers.{answered_by}
+use Rattle.host_commands.proofs.take_words.Goals as goal
+
+pub returns-then-acknowledges : goal.returns-then-acknowledges
+unfolding answered_by
+returns-then-acknowledges c =
+    rw (c.send_words.ensures, c.go_to.ensures)
+    (sym (chosen _ _ _ (sym (rw c.opcode_at.ensures at c.acknowledges.ensures) ∙ c.if-acknowledges.true)))
+
+pub returns : goal.returns
+unfolding answered_by
+returns c =
+    c.again.ensures
+    ∙ sym (passed _ _ _ (sym (rw c.opcode_at.ensures at c.acknowledges.ensures) ∙ c.if-acknowledges.false))

@@ -1,0 +1,9 @@
+-- `ledger::Totals::differ` meets its contract, by the dialect.
+use Rattle.std.proofs.Common.{rules}
+use Rattle.ledger.proofs.Totals.differ.Goals as goal
+
+pub returns-in-Am17xx : goal.returns-in-Am17xx
+returns-in-Am17xx c = rw c.in-Am17xx.is
+
+pub returns-in-Dm648 : goal.returns-in-Dm648
+returns-in-Dm648 c = rw (c.in-Dm648.is, c.is_other.ensures)

@@ -1,0 +1,6 @@
+-- `ledger::Totals::zero` meets its contract: what its parts are.
+use Rattle.std.proofs.Common.{rules}
+use Rattle.ledger.proofs.Totals.zero.Goals as goal
+
+pub returns : goal.returns
+returns c = rw (c.nothing.ensures, c.nothing-2.ensures)

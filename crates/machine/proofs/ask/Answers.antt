@@ -1,0 +1,6 @@
+-- `machine::ask` meets its contract: it puts together what it calls.
+use borrow.Author.Rules.{rules}
+use Rattle.machine.proofs.ask.Goals as goal
+
+pub returns : goal.returns
+returns c = rw (c.say.ensures, c.moved.ensures, c.silent.ensures)

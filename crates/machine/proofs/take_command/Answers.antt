@@ -1,0 +1,19 @@
+-- `machine::take_command` meets its contract: an opcode begins the session and is acknowledged, another word is neither.
+use borrow.Author.Rules.{rules}
+use mathlib.Core.Path.{sym, ap, ◌∙◌}
+use Rattle.words.proofs.Choice.{chosen, passed}
+use Rattle.machine_answers.specs.rules.Answers.{WordOutcome}
+use Rattle.machine.proofs.take_command.Goals as goal
+
+pub returns-then-opens : goal.returns-then-opens
+returns-then-opens c =
+    let opened = sym (chosen _ _ _ c.if-opens.true) in
+    let core = c.begun_by.ensures ∙ chosen _ _ _ c.if-opens.true in
+    let done = rw core at c.advance-taken.ensures in record { value = rw done.0 at c.acknowledge.ensures ∙ ap (λ (o : WordOutcome). o.answer) opened; memory_after = done.1 ∙ ap (λ (o : WordOutcome). o.memory) opened }
+
+pub returns : goal.returns
+returns c =
+    let went = sym (passed _ _ _ c.if-opens.false) in
+    let core = c.begun_by.ensures ∙ passed _ _ _ c.if-opens.false in
+    let done = rw core at c.advance-taken.ensures in
+    record { value = done.0 ∙ ap (λ (o : WordOutcome). o.answer) went; memory_after = done.1 ∙ ap (λ (o : WordOutcome). o.memory) went }

@@ -1,0 +1,17 @@
+-- `machine_answers::finish` meets its contract: the refusal's number is 0 exactly where there is none.
+use borrow.Author.Rules.{rules}
+use mathlib.Core.Path.{sym, ◌∙◌}
+use borrow.Author.Tests.{eq-eqb, ne_eqb}
+use Rattle.words.proofs.Choice.{chosen, passed}
+use Rattle.machine_answers.specs.rules.Answers.{after}
+use Rattle.machine_answers.proofs.finish.Goals as goal
+
+pub returns-then-code-eq0 : goal.returns-then-code-eq0
+unfolding after
+returns-then-code-eq0 c =
+    rw (c.wrote_none.ensures, c.moved.ensures, c.silent.ensures)
+    (sym (chosen _ _ _ (eq-eqb _ _ (sym c.code.ensures ∙ c.if-code-eq0.true))))
+
+pub returns : goal.returns
+unfolding after
+returns c = c.refuse.ensures ∙ sym (passed _ _ _ (ne_eqb _ _ (rw c.code.ensures at c.if-code-eq0.false)))

@@ -1,0 +1,44 @@
+-- `machine_loads::put_data` meets its contract: after i turns the first i bytes are written; a place past the end takes none.
+use borrow.Author.Rules.{rules}
+use Prim.Native.Nat.{◌-◌, ◌≤◌, ◌<◌, min}
+use mathlib.Core.Path.{◌≡◌, sym}
+use native.Mathlib.Omega.{arith}
+use lib.ListN.{length, get_or}
+use Rattle.words.specs.rules.Bytes.{put}
+use Rattle.words.proofs.Puts.{length_put, put_more, put_past}
+use Rattle.stores.specs.rules.Stores.{loaded}
+use Rattle.machine_loads.specs.rules.Loads.{data_bytes}
+use Rattle.machine_loads.proofs.Laws.{data_byte, data_length}
+use Rattle.machine_loads.proofs.put_data.Goals as goal
+
+pub returns-then-memory-at : goal.returns-then-memory-at
+unfolding loaded
+returns-then-memory-at c = sym (put_past _ _ _ _ c.if-memory-at.true)
+
+pub loop-i-init : goal.loop-i-init
+unfolding put
+loop-i-init c = search rules
+
+pub loop-i-preserved : goal.loop-i-preserved
+loop-i-preserved c =
+    let a = c.args in
+    let inv = c.loop-i.invariant in
+    let h : c.loop-i.i < min a.left 4 = omega arith in (
+      omega arith,
+      rw (put_more, data_byte a.word a.left _ h, ← inv.1, ← c.byte_of.ensures)
+          c.put_byte.ensures,
+    )
+
+pub shape_of-memory : goal.shape_of-memory
+shape_of-memory c = rw c.loop-i.invariant.1 (length_put _ _ _ _)
+
+pub returns : goal.returns
+unfolding loaded
+returns c =
+    let all : length (data_bytes c.args.word c.args.left)
+    ≡ c.loop-i.i = omega (
+      arith,
+      data_length c.args.word
+          c.args.left,
+    ) in
+    rw all c.loop-i.invariant.1

@@ -1,0 +1,18 @@
+-- What each turn keeps.
+use borrow.Author.Rules.{rules}
+use Prim.Native.Nat.{◌-◌, ◌≤◌, ◌<◌, min}
+use mathlib.Core.Path.{◌≡◌, sym}
+use native.Mathlib.Omega.{arith}
+use lib.ListN.{length, get_or}
+use Rattle.words.specs.rules.Bytes.{put}
+use Rattle.words.proofs.Puts.{length_put, put_more, put_past}
+use Rattle.stores.specs.rules.Stores.{loaded}
+use Rattle.machine_loads.specs.rules.Loads.{data_bytes}
+use Rattle.machine_loads.proofs.Laws.{data_byte, data_length}
+use Rattle.machine_loads.proofs.put_data.Given as goal
+
+abbrev pub invariant-loop-i : goal.invariant-loop-i
+invariant-loop-i l = (l.i ≤ l.count) × (l.memory ≡ put l.initial.memory l.at l.i (λ k. get_or (data_bytes l.word l.left) k 0))
+
+abbrev pub decreases-loop-i : goal.decreases-loop-i
+decreases-loop-i l = l.count - l.i

@@ -1,0 +1,9 @@
+-- `sent::Session::step_at` meets its contract: the unit at the place is taken.
+use borrow.Author.Rules.{rules}
+use Rattle.sent.proofs.Session.step_at.Goals as goal
+
+pub take_unit-requires : goal.take_unit-requires
+take_unit-requires c = c.unit_at.ensures.upper_bound
+
+pub returns : goal.returns
+returns c = rw c.unit_at.ensures.value at (c.take_unit.ensures.value, c.take_unit.ensures.memory_after)

@@ -1,0 +1,12 @@
+-- `sent::line_after` meets its contract: the refusal's number is 0 exactly where there is none.
+use borrow.Author.Rules.{rules}
+use mathlib.Core.Path.{sym, ◌∙◌}
+use borrow.Author.Tests.{eq-eqb, ne_eqb}
+use Rattle.words.proofs.Choice.{chosen, passed}
+use Rattle.sent.proofs.line_after.Goals as goal
+
+pub returns-then-code-eq0 : goal.returns-then-code-eq0
+returns-then-code-eq0 c = sym (chosen _ _ _ (eq-eqb _ _ (sym c.code.ensures ∙ c.if-code-eq0.true)))
+
+pub returns : goal.returns
+returns c = sym (passed _ _ _ (ne_eqb _ _ (rw c.code.ensures at c.if-code-eq0.false)))

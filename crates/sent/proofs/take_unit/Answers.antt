@@ -1,0 +1,6 @@
+-- `sent::take_unit` meets its contract: the unit is heard by the same session.
+use borrow.Author.Rules.{rules}
+use Rattle.sent.proofs.take_unit.Goals as goal
+
+pub returns : goal.returns
+returns c = rw c.anew.ensures at (c.hear.ensures.value, c.hear.ensures.memory_after)

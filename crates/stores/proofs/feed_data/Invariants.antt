@@ -1,0 +1,19 @@
+-- What each turn keeps.
+use Prim.Native.Nat.{ℕ, ◌+◌, ◌-◌, ◌/◌, ◌*◌, min}
+use mathlib.Core.Path.{◌≡◌, refl, sym, ap, ap₂, ◌∙◌}
+use lib.ListN.{length, drop, take}
+use Rattle.stores.specs.rules.Stores.{words_fed}
+use borrow.Author.Rules.{rules}
+use native.Mathlib.Nat.{sub-zero}
+use Rattle.words.specs.rules.Bytes.{number}
+use Rattle.words.proofs.Numbers.{from_place}
+use Rattle.checksum.specs.rules.Checksum.{fed}
+use Rattle.stores.proofs.Feeding.{next_word, no_word}
+use Rattle.stores.proofs.feed_data.Given as goal
+
+abbrev pub invariant-loop-at : goal.invariant-loop-at
+invariant-loop-at l = words_fed l.reached ((length l.bytes - l.at + 3) / 4) (drop l.at l.bytes) ≡ words_fed l.checksum ((length l.bytes + 3) / 4)
+    l.bytes
+
+abbrev pub decreases-loop-at : goal.decreases-loop-at
+decreases-loop-at l = length l.bytes - l.at

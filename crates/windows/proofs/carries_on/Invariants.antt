@@ -1,0 +1,19 @@
+-- What each turn keeps.
+use mathlib.Core.Path.{◌≡◌, sym, ◌∙◌}
+use mathlib.Core.Bool.{true≢false}
+use Prim.Native.Nat.{◌-◌}
+use borrow.Author.Rules.{rules}
+use borrow.Author.Tests.{not_true, not_false}
+use native.Mathlib.Omega.{arith}
+use lib.ListN.{drop}
+use Rattle.windows.specs.rules.Window.{carries_on}
+use Rattle.windows.proofs.Chains.{carries_here}
+use Rattle.windows.proofs.Left.{carries_none, carries_next, carries_fails}
+use Rattle.windows.proofs.carries_on.Given as goal
+
+abbrev pub invariant-loop-reached : goal.invariant-loop-reached
+invariant-loop-reached l =
+    carries_on (drop l.i l.windows) l.right l.reached l.end ≡ carries_on (drop l.next l.windows) l.right l.from l.end
+
+abbrev pub decreases-loop-reached : goal.decreases-loop-reached
+decreases-loop-reached l = 8 - l.i

@@ -1,0 +1,18 @@
+-- What each turn keeps.
+use mathlib.Core.Path.{◌≡◌, sym, ◌∙◌}
+use mathlib.Core.Logic.{⊎_elim}
+use Prim.Native.Nat.{◌-◌, ◌*◌, ◌^◌, ◌≤◌}
+use borrow.Author.Rules.{rules}
+use native.Mathlib.Omega.{arith}
+use lib.ListN.{drop}
+use Rattle.windows.specs.rules.Window.{place_from, place_of}
+use Rattle.windows.proofs.Left.{place_none, place_not_held, place_within, place_carried, place_broken}
+use Rattle.windows.proofs.Parts.{held}
+use Rattle.windows.proofs.go_through.Given as goal
+
+abbrev pub invariant-loop-i : goal.invariant-loop-i
+invariant-loop-i l =
+    (l.i ≤ 8) × (l.base ≤ l.i * 2 ^ 32) × (place_from l.base (drop l.i l.windows) l.right l.address l.size ≡ place_of l.windows l.right l.address l.size)
+
+abbrev pub decreases-loop-i : goal.decreases-loop-i
+decreases-loop-i l = 8 - l.i

@@ -1,0 +1,15 @@
+-- What each turn keeps.
+use mathlib.Core.Path.{◌≡◌, ap, ◌∙◌}
+use Prim.Native.Nat.{ℕ, ◌-◌, ◌≤◌, max}
+use borrow.Author.Rules.{rules}
+use native.Mathlib.Omega.{arith}
+use lib.ListN.{length}
+use Rattle.windows.specs.rules.Map.{kept_of}
+use Rattle.windows.proofs.Left.{kept_cleared, kept_all}
+use Rattle.windows.proofs.kept.Given as goal
+
+abbrev pub invariant-loop-i : goal.invariant-loop-i
+invariant-loop-i l = (l.i ≤ 8) × (length l.left ≡ 8) × (kept_of (max l.i l.count) l.left ≡ kept_of l.count l.initial.left)
+
+abbrev pub decreases-loop-i : goal.decreases-loop-i
+decreases-loop-i l = 8 - l.i

@@ -1,0 +1,18 @@
+-- What each turn keeps.
+use mathlib.Core.Path.{◌≡◌, sym, ◌∙◌}
+use mathlib.Core.Bool.{true≢false}
+use Prim.Native.Nat.{◌-◌, ◌≤◌}
+use borrow.Author.Rules.{rules}
+use borrow.Author.Tests.{not_true, not_false}
+use native.Mathlib.Omega.{arith}
+use lib.ListN.{take, drop, length-take}
+use Rattle.windows.specs.rules.Map.{sound_and_rising}
+use Rattle.windows.proofs.Left.{rising_none, rising_on, rising_fails}
+use Rattle.windows.proofs.sound_and_rising.Given as goal
+
+abbrev pub invariant-loop-i : goal.invariant-loop-i
+invariant-loop-i l =
+    (l.i ≤ l.count) × (sound_and_rising l.end (drop l.i (take l.count l.windows)) ≡ sound_and_rising 0 (take l.count l.windows))
+
+abbrev pub decreases-loop-i : goal.decreases-loop-i
+decreases-loop-i l = l.count - l.i
