@@ -1,5 +1,4 @@
 -- `words::joined` meets its contract: neither shift loses a bit, since the high part has at most 32 bits and is shifted by at most 32.
-use borrow.Author.Rules.{rules}
 use Prim.Native.Nat.{◌*◌, ◌%◌, ◌^◌}
 use mathlib.Core.Path.{◌≡◌, ◌∙◌}
 use native.Mathlib.Omega.{arith}

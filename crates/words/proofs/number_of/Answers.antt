@@ -1,5 +1,4 @@
 -- `words::number_of` meets its contract: what four bytes make is the number of the list written out, whether they are read at once or asked for one by one.
-use borrow.Author.Rules.{rules}
 use mathlib.Core.Path.{◌∙◌}
 use Rattle.words.proofs.Numbers.{first_four}
 use Rattle.words.proofs.number_of.Goals as goal

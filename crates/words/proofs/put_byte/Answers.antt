@@ -1,5 +1,4 @@
 -- `words::put_byte` meets its contract: a store past the end is none, in the code by its test and in `set` by definition.
-use borrow.Author.Rules.{rules}
 use mathlib.Core.Path.{sym}
 use lib.Seq.{set_out}
 use Rattle.words.proofs.put_byte.Goals as goal

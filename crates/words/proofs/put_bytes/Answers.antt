@@ -1,5 +1,5 @@
 -- `words::put_bytes` meets its contract: after i turns the first i bytes are written, and what is left of the value is the rest of its bytes.
-use Prim.Native.Nat.{ℕ, ◌+◌, ◌-◌, ◌*◌, ◌/◌, ◌^◌, ◌≤◌}
+use Prim.Native.Nat.{ℕ, ◌+◌, ◌*◌, ◌/◌, ◌^◌}
 use mathlib.Core.Path.{◌≡◌, ap, ◌∙◌}
 use Rattle.words.specs.rules.Bytes.{byte, put}
 use borrow.Author.Rules.{rules}

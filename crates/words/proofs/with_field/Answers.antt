@@ -1,5 +1,4 @@
 -- `words::with_field` meets its contract: it is the definition, and nothing of it passes 32 bits.
-use borrow.Author.Rules.{rules}
 use native.Mathlib.Omega.{arith}
 use native.Mathlib.Nat.{lt_of_le_of_lt, lt_of_lt_of_le}
 use lib.Pow.{pow_mono, shr_le}

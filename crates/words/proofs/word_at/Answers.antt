@@ -1,5 +1,4 @@
 -- `words::word_at` meets its contract: what is left of the slice begins with those four bytes, and past the end there are none.
-use borrow.Author.Rules.{rules}
 use mathlib.Core.Path.{sym, ap, ◌∙◌}
 use lib.ListN.{take, drop_of_length-le}
 use Rattle.words.specs.rules.Bytes.{number, bytes_at, word_at}
