@@ -4,7 +4,7 @@ use Prim.Native.Nat.{ℕ, zero, suc, ◌≤◌}
 use mathlib.Core.List.{List}
 use native.Mathlib.Omega.{arith}
 use lib.ListN.{length}
-use borrow.Author.Tests.{not_false}
+use borrow.Author.Tests.{not-false}
 use Rattle.words.proofs.Choice.{of_choice}
 use Rattle.windows.specs.declared.Window.{Window}
 use Rattle.opcodes.specs.declared.Dialect.{Dialect}
@@ -61,7 +61,7 @@ opened_within dialect count windows image limit =
     of_choice Short _ (λ e. (omega arith, omega arith))
     (λ e. of_choice Short _ (λ e. (omega arith, omega arith))
     (λ sound. of_choice Short _ (λ e. (omega arith, omega arith))
-    (λ e. (omega arith, length_small (length image) (not_false _ sound)))))
+    (λ e. (omega arith, length_small (length image) (not-false _ sound)))))
 
 -- and so does one whose commands are numbered
 pub numbered_within : (dialect : Dialect) (count : ℕ) (windows : List Window) (image : List ℕ) (limit : ℕ)

@@ -5,7 +5,7 @@ use mathlib.Core.Logic.{◌≢◌}
 use mathlib.Core.Path.{◌≡◌, sym, ap, ◌∙◌}
 use native.Mathlib.Omega.{arith}
 use lib.ListN.{length, drop}
-use lib.Seq.{sets, sets_eq, drop-length}
+use lib.Seq.{sets, sets-eq, drop-length}
 use borrow.Author.Tests.{eq-eqb, ne_eqb}
 use Rattle.words.specs.rules.Bytes.{words_bytes}
 use Rattle.words.specs.rules.Choice.{pick}
@@ -39,7 +39,7 @@ pub all_laid : (m : List ℕ) (h : Host) → length m ≡ host_bytes → sets (s
 unfolding host_laid written_host
 all_laid m h e =
     let full : drop 41 m ≡ [] = ap (λ (k : ℕ). drop k m) (sym e) ∙ drop-length m in
-    sets_eq (written_host h) m 0 (omega (arith, e))
+    sets-eq (written_host h) m 0 (omega (arith, e))
     ∙ ap (λ (l : List ℕ). written_host h ++ l) full
     ∙ sym (chosen _ _ _ (eq-eqb _ _ e))
 

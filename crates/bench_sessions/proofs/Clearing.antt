@@ -6,7 +6,7 @@ use native.Mathlib.Nat.{zero-add}
 use native.Mathlib.Numerals.{add-one}
 use native.Mathlib.Omega.{arith}
 use lib.ListN.{length, set, drop, replicate, length-replicate}
-use lib.Seq.{sets, sets_eq, drop-length}
+use lib.Seq.{sets, sets-eq, drop-length}
 use Rattle.bench_sessions.specs.rules.Numbers.{cleared}
 
 -- one byte cleared, and those after it left to clear
@@ -24,5 +24,5 @@ pub clear_all : (l : List ℕ) → sets l 0 (replicate (length l) 0) ≡ cleared
 clear_all l =
     let none : List ℕ = replicate (length l) 0 in
     let long : length none ≡ length l = length-replicate (length l) 0 in
-    sets_eq none l 0 (omega (arith, long)) ∙ ap (λ (k : ℕ). none ++ drop k l) (zero-add (length none) ∙ long)
+    sets-eq none l 0 (omega (arith, long)) ∙ ap (λ (k : ℕ). none ++ drop k l) (zero-add (length none) ∙ long)
     ∙ ap (λ (r : List ℕ). none ++ r) (drop-length l) ∙ append-nil none

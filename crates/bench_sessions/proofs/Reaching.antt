@@ -8,7 +8,7 @@ use native.Mathlib.Omega.{arith}
 use lib.Dec.{eqb}
 use borrow.Author.Tests.{eqb-true}
 use lib.ListN.{length, get_or, set, take, drop, length-append, length-take}
-use lib.Seq.{sets, sets_eq, drop-cons, drop-length, get_or-take}
+use lib.Seq.{sets, sets-eq, drop-cons, drop-length, get_or-take}
 use Rattle.words.proofs.Choice.{chosen, passed, by_test}
 use Rattle.opcodes.specs.rules.Answers.{code_of}
 use Rattle.sent.specs.rules.Feeding.{State, Heard, heard, fed, answers, replied, first_of, first_refused}
@@ -131,6 +131,6 @@ module _ (bus : Bus) (places room₀ : List ℕ) (x₀ : State) (opening : Reply
       let refused : first ≡ first_refused heard = sym (first_none first) ∙ ap (λ (e : End). e.refusal) same ∙ none_first _ in
       let whole : value ≡ first_refused heard * 2 ^ 32 + length (greeting ++ replies) = omega arith in
       let laid : room ≡ (greeting ++ replies) ++ drop (length (greeting ++ replies)) room₀ =
-      ap (λ (e : End). e.room) same ∙ sym (sets_append greeting replies room₀ 0) ∙ sets_eq (greeting ++ replies) room₀ 0 fits
+      ap (λ (e : End). e.room) same ∙ sym (sets_append greeting replies room₀ 0) ∙ sets-eq (greeting ++ replies) room₀ 0 fits
       ∙ ap (λ (k : ℕ). (greeting ++ replies) ++ drop k room₀) (zero-add (length (greeting ++ replies))) in
       all_same whole (ap (λ (e : End). e.memory) same) (ap (λ (e : End). e.numbers) same) laid

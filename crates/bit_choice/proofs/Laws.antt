@@ -5,10 +5,10 @@ use mathlib.Core.List.{List, [], ◌∷◌, map}
 use mathlib.Core.Logic.{◌≢◌}
 use mathlib.Core.Path.{◌≡◌, refl, sym, ap, ◌∙◌}
 use native.Mathlib.Omega.{arith}
-use borrow.Author.Tests.{eq-eqb, ne_eqb, eqb-true, eqb-false, le-leb, not_true}
+use borrow.Author.Tests.{eq-eqb, ne_eqb, eqb-true, eqb-false, le-leb, not-true}
 use lib.Dec.{eqb, leb}
 use lib.ListN.{length, get_or, take, drop, replicate, length-map}
-use lib.Seq.{sets_eq, take_at}
+use lib.Seq.{sets-eq, take_at}
 use Rattle.words.specs.rules.Bits.{join}
 use Rattle.words.specs.rules.Bytes.{word_at, bytes_at, number}
 use Rattle.words.specs.rules.Choice.{pick}
@@ -74,7 +74,7 @@ module _ (windows : List Window) where
       let whole = both (may_be_chosen windows a && not (among a rest)) (all_fit windows rest) e in
       let front = both (may_be_chosen windows a) (not (among a rest)) whole.0 in
       let later = fitting rest whole.1 in
-      record { each = each_one front.0 later; apart = all_apart (not_true (among a rest) front.1) later }
+      record { each = each_one front.0 later; apart = all_apart (not-true (among a rest) front.1) later }
     where
       each_one : may_be_chosen windows a ≡ true → Fitting windows rest → (i : ℕ) → i < suc (length rest) → may_be_chosen windows (get_or (a ∷ rest) i 0) ≡ true
       each_one here later zero h = here
@@ -146,7 +146,7 @@ module _ (windows : List Window) (bytes : List ℕ) where
       let size : length ps ≡ length bytes / 4 = length-map (addresses_of bytes) (word_place windows) ∙ length_addresses bytes 0 (length bytes / 4) in
       let room : 0 + length ps ≤ length zeros = rw (size) (omega (arith, f.few)) in
       ap (λ (c : Choice). take (length bytes / 4) c.chosen.places) (taken_law f)
-      ∙ ap (take (length bytes / 4)) (sets_eq ps zeros 0 room)
+      ∙ ap (take (length bytes / 4)) (sets-eq ps zeros 0 room)
       ∙ take_at ps (drop (0 + length ps) zeros) (length bytes / 4) size
 
 -- a word that one window grants is placed, wherever the windows' bytes begin

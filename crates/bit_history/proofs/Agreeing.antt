@@ -1,7 +1,7 @@
 -- What a step tells and does to memory, against what its history has: both stamp the same, where the first bit, the count and the number are the same, or where
 -- there is no bit at all; and a bit of memory is then what the history says of it.
 use Prim.Native.Nat.{ℕ, ◌+◌, ◌*◌, ◌/◌, ◌%◌, ◌≤◌, ◌<◌}
-use mathlib.Core.Bool.{Bool, true, false, ◌&&◌, or_false}
+use mathlib.Core.Bool.{Bool, true, false, ◌&&◌, or-false}
 use mathlib.Core.List.{List, [], ◌∷◌, ◌++◌}
 use mathlib.Core.Path.{◌≡◌, refl, sym, ap, ap₂, ◌∙◌}
 use native.Mathlib.Omega.{arith}
@@ -79,7 +79,7 @@ pub same_told_bits : (cs : List Numbered) (w : Wrote) → Told cs w → (p : ℕ
 unfolding some_writes
 same_told_bits [] w told p = sym (ap (λ (x : Wrote). within (first_bit x) x.count p) told ∙ above 0 0 p (omega arith))
 same_told_bits (c ∷ []) w told p =
-    or_false (writes c.effect p) ∙ sym (ap₂ (λ (b n : ℕ). within b n p) told.1.0 told.1.1)
+    or-false (writes c.effect p) ∙ sym (ap₂ (λ (b n : ℕ). within b n p) told.1.0 told.1.1)
 same_told_bits (c ∷ d ∷ cs) w told p = absurd told
 
 -- a bit after one command, or none

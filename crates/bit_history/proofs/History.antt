@@ -1,7 +1,7 @@
 -- What a history says of a bit: by induction over it, a command goes on from what was there before. One stamp is one such step, and so is one effect on
 -- memory, so entries and memory are what the history says.
 use Prim.Native.Nat.{ℕ, ◌+◌, ◌*◌, ◌≤◌, ◌<◌}
-use mathlib.Core.Bool.{Bool, true, false, ◌||◌, or_false, or_assoc, true≢false}
+use mathlib.Core.Bool.{Bool, true, false, ◌||◌, or-false, or_assoc, true≢false}
 use mathlib.Core.List.{List, [], ◌∷◌, ◌++◌}
 use mathlib.Core.Path.{◌≡◌, refl, sym, ap, ap₂, ◌∙◌}
 use native.Mathlib.Omega.{arith}
@@ -22,7 +22,7 @@ use Rattle.bit_history.specs.claims.History.{HistoryLaws}
 
 -- a test that holds, where its second part does not
 first_part : (s d : Bool) → (s || d) ≡ true → d ≡ false → s ≡ true
-first_part s d e none = sym (or_false s) ∙ ap (λ (t : Bool). s || t) (sym none) ∙ e
+first_part s d e none = sym (or-false s) ∙ ap (λ (t : Bool). s || t) (sym none) ∙ e
 
 -- a bit is written by one of two histories
 pub some_after : (earlier later : List Numbered) (p : ℕ) → any_writes (earlier ++ later) p ≡ (any_writes earlier p || any_writes later p)

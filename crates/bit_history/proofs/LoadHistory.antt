@@ -1,7 +1,7 @@
 -- A load by line as a whole. The units of a word list what the word lists, so the history is that of the words; what these tell is the whole load's, and what
 -- they leave in memory too, so each bit that is listed is listed with the load's number and value.
 use Prim.Native.Nat.{ℕ, zero, suc, ◌+◌, ◌-◌, ◌*◌, ◌/◌, ◌^◌, ◌≤◌, ◌<◌, min}
-use mathlib.Core.Bool.{Bool, true, false, not, ◌&&◌, ◌||◌, or-true, or_false, true≢false}
+use mathlib.Core.Bool.{Bool, true, false, not, ◌&&◌, ◌||◌, or-true, or-false, true≢false}
 use mathlib.Core.List.{List, [], ◌∷◌, ◌++◌, append-nil, append_assoc}
 use mathlib.Core.Path.{◌≡◌, refl, sym, ap, ap₂, subst, ◌∙◌}
 use native.Mathlib.Omega.{arith}
@@ -186,7 +186,7 @@ last_by n (c ∷ cs) by p =
     ∙ sym (chosen _ _ _ (ap (λ (u : Bool). writes c.effect p || u) t ∙ or-true (writes c.effect p))))
     (λ f.
     passed _ _ _ f
-    ∙ ap₂ (λ (u : Bool) (x : ℕ). pick u x 0) (sym (ap (λ (u : Bool). writes c.effect p || u) f ∙ or_false (writes c.effect p))) by.0)
+    ∙ ap₂ (λ (u : Bool) (x : ℕ). pick u x 0) (sym (ap (λ (u : Bool). writes c.effect p || u) f ∙ or-false (writes c.effect p))) by.0)
 
 -- histories that list the same bits, one of them as one effect, by one number, and leave the same memory, say the same
 module _ (a : List Numbered) (n : ℕ) (e : Effect) (m left : List ℕ) (leaves : LeftBy a m left) (does : DoesInside e m left)
@@ -195,7 +195,7 @@ module _ (a : List Numbered) (n : ℕ) (e : Effect) (m left : List ℕ) (leaves 
   in_memory : (p : ℕ) → any_writes (one n e) p ≡ true → p < 8 * length m
   unfolding some_writes within
   in_memory p t =
-      let parts = both (leb e.first p) (ltb p (e.first + e.count)) (sym (or_false (writes e p)) ∙ t) in
+      let parts = both (leb e.first p) (ltb p (e.first + e.count)) (sym (or-false (writes e p)) ∙ t) in
       omega (arith, ltb-true p (e.first + e.count) parts.1, does.lies)
 
   value : (p was : ℕ) → last_given a p was ≡ last_given (one n e) p was
@@ -331,7 +331,7 @@ module _ (bus : Bus) (k : Core) (m : List ℕ) (size place : ℕ) (words : List 
       ap (λ (l : List Numbered). any_writes l p) lists ∙ words_bits words sized m p
       ∙ pieces_tell_the_load.bits words sized m place size refl at.complete p
       ∙ ap₂ (λ (b n : ℕ). within b (8 * n) p) first (sym (data_count size words at.complete))
-      ∙ sym (or_false (writes (whole_load place size words) p))
+      ∙ sym (or-false (writes (whole_load place size words) p))
 
   numbers : Numbers k.tally.totals.next (history bus (at_word k m) units)
   numbers =

@@ -5,7 +5,7 @@ use mathlib.Core.Bool.{Bool, true, false, not, ◌&&◌, ◌||◌, true≢false}
 use mathlib.Core.List.{List, [], ◌∷◌}
 use mathlib.Core.Path.{◌≡◌, refl, sym, ap, ap₂, ◌∙◌}
 use native.Mathlib.Omega.{arith}
-use borrow.Author.Tests.{ltb-true, ltb-false, leb-true, eqb-true, eqb-false, not_true, not_false, lt-ltb, le-leb, eq-eqb}
+use borrow.Author.Tests.{ltb-true, ltb-false, leb-true, eqb-true, eqb-false, not-true, not-false, lt-ltb, le-leb, eq-eqb}
 use lib.Dec.{leb, ltb, eqb}
 use Rattle.words.specs.rules.Bits.{within}
 use Rattle.words.specs.rules.Choice.{pick}
@@ -57,8 +57,8 @@ part_laws numbers offsets names w k =
           (by_test (eqb j k) (λ t. ap (λ (i : ℕ). alike (told k) (told i)) (eqb-true j k t) ∙ alike_itself (told k))
           (λ f.
           let other : j ≡ k → ⊥ = eqb-false j k f in
-          not_false _ (lowest_before unlike (k + 1) (32 - (k + 1)) j (omega arith) below)));
-      not_behind = λ h. not_true _ (found_holds unlike (k + 1) 32 h);
+          not-false _ (lowest_before unlike (k + 1) (32 - (k + 1)) j (omega arith) below)));
+      not_behind = λ h. not-true _ (found_holds unlike (k + 1) 32 h);
     }
 
 pub first_laws : (numbers offsets : List ℕ) (index k : ℕ) → FirstLaws numbers offsets index k
@@ -66,7 +66,7 @@ unfolding is_first
 first_laws numbers offsets index k =
     let test : ℕ → Bool = by_one numbers offsets index k in
     record {
-      none_below = λ e j h. lowest_before test 0 (k - 0) j (omega arith) (omega (arith, ltb-false (lowest_in test 0 k) k (not_true _ e)));
+      none_below = λ e j h. lowest_before test 0 (k - 0) j (omega arith) (omega (arith, ltb-false (lowest_in test 0 k) k (not-true _ e)));
       one_below = λ j h e. ap not (lt-ltb (lowest_in test 0 k) k (omega (arith, holds_found test 0 k j (omega arith) h e)));
     }
 
@@ -141,7 +141,7 @@ module _ (names : Names) (word : ℕ) where
               λ same_names.
               true≢false
               (sym (ap (λ (name : List ℕ). same (field_at names word p).line.name name) same_names ∙ same_refl (field_at names word p).line.name)
-              ∙ not_true _ parts.1);
+              ∙ not-true _ parts.1);
         }
 
     -- a bit of another name is found

@@ -6,7 +6,7 @@ use mathlib.Core.Path.{◌≡◌, refl, sym, ap, subst, ◌∙◌}
 use native.Mathlib.Omega.{arith}
 use lib.Dec.{eqb}
 use lib.ListN.{length}
-use borrow.Author.Tests.{not_false}
+use borrow.Author.Tests.{not-false}
 use Rattle.words.proofs.Choice.{chosen, passed, by_test, of_choice}
 use Rattle.opcodes.specs.rules.Answers.{code_of}
 use Rattle.opcodes.specs.declared.Refusal.{Refusal}
@@ -41,7 +41,7 @@ unfolding opened_by
 no_image_none image limit bad =
     let None : Opened → Type 0 = λ o. (last_answer image o).session.fetched ≡ 0 in
     of_choice None _ (λ e. refused_none image Map refl)
-    (λ e. of_choice None _ (λ e. refused_none image Image refl) (λ sound. absurd (true≢false (sym (not_false _ sound) ∙ bad))))
+    (λ e. of_choice None _ (λ e. refused_none image Image refl) (λ sound. absurd (true≢false (sym (not-false _ sound) ∙ bad))))
 
 pub within_ceiling : WithinCeiling
 unfolding counted_of most_of

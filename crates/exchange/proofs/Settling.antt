@@ -7,7 +7,7 @@ use native.Mathlib.Omega.{arith}
 use native.Mathlib.Nat.{le_refl}
 use lib.Dec.{eqb}
 use lib.ListN.{length}
-use borrow.Author.Tests.{eq-eqb, not_false}
+use borrow.Author.Tests.{eq-eqb, not-false}
 use Rattle.words.specs.rules.Choice.{pick}
 use Rattle.words.proofs.Choice.{chosen, by_test, of_choice}
 use Rattle.windows.specs.declared.Window.{Window}
@@ -207,7 +207,7 @@ opened_lent bus dialect image tries limit pings =
     of_choice (Fits image) _ (λ e f. absurd (true≢false f))
     (λ good. of_choice (Fits image) _ (λ e f. absurd (true≢false f))
     (λ e. of_choice (Fits image) _ (λ e f. absurd (true≢false f))
-    (λ e f. ap₂ ◌&&◌ (not_false (good_length (length image)) good) (eq-eqb (length image) (length image) refl))))
+    (λ e f. ap₂ ◌&&◌ (not-false (good_length (length image)) good) (eq-eqb (length image) (length image) refl))))
 
 heard_lent : (h : Host) (bytes image : List ℕ) → Lent h image → Lent (heard_all h bytes) image
 heard_lent h bytes image lent more =

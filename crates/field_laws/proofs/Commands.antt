@@ -5,7 +5,7 @@ use mathlib.Core.List.{List}
 use mathlib.Core.Path.{◌≡◌, sym, ap, ap₂, ◌∙◌}
 use native.Mathlib.Nat.{mod-eq_of_lt, lt_of_lt_of_le}
 use native.Mathlib.Omega.{arith}
-use borrow.Author.Tests.{not_false, leb-false}
+use borrow.Author.Tests.{not-false, leb-false}
 use lib.Dec.{leb, ltb, lit<, leb-suc-suc}
 use lib.ListN.{get_or}
 use lib.Pow.{pow_mono}
@@ -40,7 +40,7 @@ of_line f value words =
     of_choice (λ (s : Setting). s ≡ record { refusal = None; words = words } → OfLine f value words)
     (too_wide (width_of (start_byte f.line) (stop_byte f.line)) value)
     (λ wide. another TooWide (λ e. let z : ◌≡◌ {A = ℕ} 0 1 = cc in omega arith))
-    (λ fit e. record { is_found = not_false _ some; fits = fit; words_are = ap (λ (s : Setting). s.words) e }))
+    (λ fit e. record { is_found = not-false _ some; fits = fit; words_are = ap (λ (s : Setting). s.words) e }))
 
 -- a place below the end of a field is one up to its last bit
 same_end : (s t k : ℕ) → s ≤ t → ltb k (s + (t - s + 1)) ≡ leb k t

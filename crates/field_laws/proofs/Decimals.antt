@@ -7,7 +7,7 @@ use mathlib.Core.List.{List, [], ◌∷◌, map}
 use mathlib.Core.Path.{◌≡◌, refl, sym, ap, ap₂, ◌∙◌}
 use native.Mathlib.Nat.{add_left_cancel, pow-suc, pow-zero, pow-le-pow_right, mod-lt, mul_comm, le-mul_of_pos_right}
 use native.Mathlib.Omega.{arith}
-use borrow.Author.Tests.{ltb-true, ltb-false, lt-ltb, le-ltb, eq-eqb, ne_eqb, not_true, leb-true, leb-false}
+use borrow.Author.Tests.{ltb-true, ltb-false, lt-ltb, le-ltb, eq-eqb, ne_eqb, not-true, leb-true, leb-false}
 use lib.Arith.{digits_div}
 use lib.Dec.{ltb, leb, eqb, lit<}
 use lib.ListN.{length, get_or, length-append, get_or-append}
@@ -68,7 +68,7 @@ at_least (c ∷ cs) e long =
     let form = both (ltb 0 (length (c ∷ cs)) && are_digits 10 (c ∷ cs)) _ e in
     let digits = both (is_digit 10 c) (are_digits 10 cs) (both (ltb 0 (length (c ∷ cs))) _ form.0).1 in
     let first : c ≡ 48 → ⊥ = λ zero-first. true≢false
-    (sym (ap₂ ◌&&◌ (lt-ltb 1 (length (c ∷ cs)) long) (eq-eqb c 48 zero-first)) ∙ not_true _ form.1) in
+    (sym (ap₂ ◌&&◌ (lt-ltb 1 (length (c ∷ cs)) long) (eq-eqb c 48 zero-first)) ∙ not-true _ form.1) in
     let stands = digit_stands c digits.0 in
     let worth : 1 ≤ digit_value c =
     by_test (leb 1 (digit_value c)) (λ held. leb-true _ _ held) (λ failed. absurd (first (omega (arith, leb-false 1 (digit_value c) failed)))) in

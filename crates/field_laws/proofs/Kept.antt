@@ -5,7 +5,7 @@ use mathlib.Core.Bool.{false, not}
 use mathlib.Core.List.{List, [], ◌∷◌, ◌++◌}
 use mathlib.Core.Path.{◌≡◌, refl, ap, ◌∙◌}
 use native.Mathlib.Omega.{arith}
-use borrow.Author.Tests.{leb-true, leb-false, not_false}
+use borrow.Author.Tests.{leb-true, leb-false, not-false}
 use lib.Dec.{leb}
 use lib.ListN.{length, length-append, get_or-append}
 use lib.Seq.{take-append_seam, get_or-append_seam}
@@ -94,7 +94,7 @@ read_good (suc allowed) ls text at good =
     of_choice Kept (clashes ls (line_at text at).line) (λ clashing. kept_refused Clash (length ls + 1))
     (λ free.
     read_good allowed (ls ++ (line_at text at).line ∷ []) text (line_at text at).next
-    (more_good ls (line_at text at).line good free (line_written text at (not_false _ right)).well_formed.in_ranges))))
+    (more_good ls (line_at text at).line good free (line_written text at (not-false _ right)).well_formed.in_ranges))))
 
 pub lines_good : (text : List ℕ) → GoodLines (lines_of text)
 lines_good text = read_good 200 [] text 0 none_good

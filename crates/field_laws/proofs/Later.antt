@@ -1,6 +1,6 @@
 -- Later than all that is named, a line with an end has ended and every line has begun: what is left to ask is whether it has an end.
 use Prim.Native.Nat.{ℕ, suc, ◌<◌}
-use mathlib.Core.Bool.{Bool, ◌&&◌, ◌||◌, or_false}
+use mathlib.Core.Bool.{Bool, ◌&&◌, ◌||◌, or-false}
 use mathlib.Core.List.{List, [], ◌∷◌}
 use mathlib.Core.Path.{◌≡◌, refl, sym, ap, ap₂, ◌∙◌}
 use native.Mathlib.Omega.{arith}
@@ -21,7 +21,7 @@ unfolding answers in_force lasts
 answers_still s release l begun ended =
     ap (λ (t : Bool). is_about s l && t)
     (ap₂ ◌&&◌ (le-leb l.since release (omega arith))
-    (ap (λ (t : Bool). eqb l.until 0 || t) (lt-leb release l.until ended) ∙ or_false (eqb l.until 0)))
+    (ap (λ (t : Bool). eqb l.until 0 || t) (lt-leb release l.until ended) ∙ or-false (eqb l.until 0)))
 
 still : (s : Subject) (release : ℕ) (ls : List FieldLine) → LaterThanAny ls release → found_in s release ls ≡ still_in_force s ls
 unfolding found_in still_in_force

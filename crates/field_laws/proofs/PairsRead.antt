@@ -8,7 +8,7 @@ use native.Mathlib.Omega.{arith}
 use borrow.Author.Tests.{lt-ltb, le-leb, ltb-true, eqb-true, ne_eqb, eq-eqb}
 use lib.Dec.{eqb, leb, ltb}
 use lib.ListN.{length, get_or, take, drop, length-append, length-drop, take-append-drop}
-use lib.Seq.{length-take-le, take-append_seam, drop-append_seam, drop-append-add, drop_drop, split_at}
+use lib.Seq.{length-take-le, take-append_seam, drop-append_seam, drop-append-add, drop-drop, split_at}
 use Rattle.bytes.specs.Bytes.{index_after, index_of}
 use Rattle.words.proofs.Choice.{chosen, passed, by_test, both}
 use Rattle.field_lines.specs.rules.Pairs.{stands, closed_at, value_at}
@@ -40,7 +40,7 @@ pub record PairAt (text : List ℕ) (at : ℕ) (key value : List ℕ) (close nex
 -- a text behind a key that was found, and behind a value that was
 behind_key : (text : List ℕ) (at : ℕ) (key : List ℕ) → take (length key) (drop at text) ≡ key → drop at text ≡ key ++ drop (at + length key) text
 behind_key text at key e =
-    sym (take-append-drop (length key) (drop at text)) ∙ ap₂ ◌++◌ e (drop_drop (length key) at text)
+    sym (take-append-drop (length key) (drop at text)) ∙ ap₂ ◌++◌ e (drop-drop (length key) at text)
 
 behind_value : (c : ℕ) (s : List ℕ) → index_of c s < length s → s ≡ take (index_of c s) s ++ (c ∷ drop (suc (index_of c s)) s)
 behind_value c s h =
@@ -64,7 +64,7 @@ module _ (text : List ℕ) (at : ℕ) (key : List ℕ) (close : ℕ) where
       let value_is : part text from (from + index) ≡ take index (drop from text) = ap (λ (n : ℕ). take n (drop from text)) long in
       let next-at : from + suc index ≡ from + index + 1 = omega arith in
       let rest_is : drop (suc index) (drop from text) ≡ drop (from + index + 1) text =
-      drop_drop (suc index) from text ∙ ap (λ (n : ℕ). drop n text) next-at in
+      drop-drop (suc index) from text ∙ ap (λ (n : ℕ). drop n text) next-at in
       record {
         there =
             behind_key text at key (same_equal _ _ front.1)
@@ -101,7 +101,7 @@ module _ (text : List ℕ) (at : ℕ) (key : List ℕ) (close : ℕ) where
       sym (length-drop at text) ∙ ap length e ∙ length-append key (value ++ (close ∷ rest))
       ∙ ap (λ (n : ℕ). length key + n) (length-append value (close ∷ rest)) in
       let left : drop from text ≡ value ++ (close ∷ rest) =
-      sym (drop_drop (length key) at text) ∙ ap (drop (length key)) e ∙ drop-append_seam key (value ++ (close ∷ rest)) in
+      sym (drop-drop (length key) at text) ∙ ap (drop (length key)) e ∙ drop-append_seam key (value ++ (close ∷ rest)) in
       let found : index ≡ length value = ap (index_of close) left ∙ found_behind close value rest high in
       let here : stands text at key ≡ true =
       ap₂ ◌&&◌ (le-leb from (length text) (omega arith))
@@ -112,6 +112,6 @@ module _ (text : List ℕ) (at : ℕ) (key : List ℕ) (close : ℕ) where
       record {
         is = chosen _ _ _ (ap₂ ◌&&◌ here (lt-ltb _ _ closed)) ∙ ap (λ (n : ℕ). From from (from + n)) found;
         is-part = ap₂ take width left ∙ take-append_seam value (close ∷ rest);
-        is_left = ap (λ (n : ℕ). drop n text) next-at ∙ sym (drop_drop (length value + 1) from text) ∙ ap (drop (length value + 1)) left
+        is_left = ap (λ (n : ℕ). drop n text) next-at ∙ sym (drop-drop (length value + 1) from text) ∙ ap (drop (length value + 1)) left
             ∙ drop-append-add value (close ∷ rest) 1;
       }

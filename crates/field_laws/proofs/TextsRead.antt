@@ -4,7 +4,7 @@ use mathlib.Core.Bool.{true, false, not, ◌||◌}
 use mathlib.Core.List.{List, [], ◌∷◌, ◌++◌, append_assoc, append-nil}
 use mathlib.Core.Path.{◌≡◌, refl, sym, ap, ap₂, subst, ◌∙◌}
 use native.Mathlib.Omega.{arith}
-use borrow.Author.Tests.{leb-true, le-leb, lt-leb, not_false}
+use borrow.Author.Tests.{leb-true, le-leb, lt-leb, not-false}
 use lib.Dec.{leb}
 use lib.ListN.{length, drop, drop_of_length-le, length-append, get_or-append}
 use lib.Seq.{append_snoc, get_or-append_seam}
@@ -61,7 +61,7 @@ read_on (suc allowed) ls text at =
     of_choice (Reads ls (drop at text)) (clashes ls (line_at text at).line) (λ clashing. refused_none ls (drop at text) Clash _ clash_none)
     (λ free good.
     let p : Parsed = line_at text at in
-    let here = line_written text at (not_false _ right) in
+    let here = line_written text at (not-false _ right) in
     let rest = read_on allowed (ls ++ p.line ∷ []) text p.next good in
     record {
       lines = p.line ∷ rest.lines;

@@ -4,7 +4,7 @@ use mathlib.Core.Bool.{Bool, true, false, not, ◌&&◌, true≢false}
 use mathlib.Core.List.{List}
 use mathlib.Core.Path.{◌≡◌, sym, ap, ap₂, ◌∙◌}
 use native.Mathlib.Omega.{arith}
-use borrow.Author.Tests.{lt-ltb, eq-eqb, eqb-true, ltb-true, leb-true, le-leb, not_true}
+use borrow.Author.Tests.{lt-ltb, eq-eqb, eqb-true, ltb-true, leb-true, le-leb, not-true}
 use lib.ListN.{length}
 use Rattle.words.proofs.Choice.{by_test, both}
 use Rattle.digits.specs.rules.Numbers.{are_digits, number_of, number_up_to}
@@ -36,7 +36,7 @@ module _ (s : List ℕ) (least most : ℕ) where
       record {
         some = ltb-true _ _ digits.0;
         digits = digits.1;
-        leads = not_true _ form.1;
+        leads = not-true _ form.1;
         low = leb-true _ _ range.0;
         high = leb-true _ _ range.1;
       }

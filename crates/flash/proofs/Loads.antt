@@ -4,7 +4,7 @@ use mathlib.Core.Bool.{false}
 use mathlib.Core.List.{List}
 use mathlib.Core.Path.{◌≡◌, refl}
 use native.Mathlib.Omega.{arith}
-use borrow.Author.Tests.{not_false}
+use borrow.Author.Tests.{not-false}
 use Rattle.words.proofs.Choice.{of_choice}
 use Rattle.opcodes.specs.declared.Command.TheVariants.{Load}
 use Rattle.opcodes.specs.declared.Refusal.TheVariants as refusal
@@ -34,7 +34,7 @@ module _ (s : Session) (m image : List ℕ) where
       of_choice Answered _ (λ e. denied s image ready.running (1 + n) Met-all refusal.Missing (ends refusal.Missing refl))
       (λ e. of_choice Answered _ (λ spent. denied s image ready.running (1 + n) Met-all refusal.Number (ends refusal.Number refl))
       (λ unspent. goes_on s image ready.running (λ z. omega arith)
-      (read s image ready (1 + n + data_words_of Load s image) refl (omega (arith, are_there image _ _ (not_false _ e)))) (omega arith)
+      (read s image ready (1 + n + data_words_of Load s image) refl (omega (arith, are_there image _ _ (not-false _ e)))) (omega arith)
       (counted_both s.fetched (1 + n) _) (fits refl, unspent)))
   load_call {n} ready (denies e) fits = denied s image ready.running (1 + n) (all_met s image ready) _ e
 

@@ -6,7 +6,7 @@ use mathlib.Core.Logic.{◌≢◌}
 use mathlib.Core.Path.{◌≡◌, refl}
 use native.Mathlib.Omega.{arith}
 use lib.Dec.{ltb, eqb}
-use borrow.Author.Tests.{ltb-true, leb-true, eqb-true, not_true}
+use borrow.Author.Tests.{ltb-true, leb-true, eqb-true, not-true}
 use Rattle.words.specs.rules.Choice.{pick}
 use Rattle.words.proofs.Choice.{both, of_choice}
 use Rattle.windows.specs.declared.Window.{Window}
@@ -34,7 +34,7 @@ pub ends : (q : Refusal) → (ltb 0 (code_of q) && not (spares q)) ≡ true → 
 ends q e =
     let parts = both (ltb 0 (code_of q)) (not (spares q)) e in
     let low = ltb-true 0 (code_of q) parts.0 in
-    record { refused = λ z. omega arith; unspared = not_true (spares q) parts.1 }
+    record { refused = λ z. omega arith; unspared = not-true (spares q) parts.1 }
 
 -- a judgement grants a place or refuses with such a number
 pub data Judges : Judged → Type 0 where

@@ -5,7 +5,7 @@ use mathlib.Core.List.{List}
 use mathlib.Core.Path.{◌≡◌, refl, sym, ap, ◌∙◌}
 use native.Mathlib.Omega.{arith}
 use lib.ListN.{length}
-use borrow.Author.Tests.{eqb-true, not_false}
+use borrow.Author.Tests.{eqb-true, not-false}
 use Rattle.words.proofs.Choice.{both, of_choice}
 use Rattle.opcodes.specs.declared.Command.{Command}
 use Rattle.opcodes.specs.declared.Command.TheVariants as command
@@ -65,7 +65,7 @@ module _ (s : Session) (m image : List ℕ) where
       of_choice Answered _ (λ over. spared s image refusal.Ended refl (λ z. omega arith) (sym over))
       (λ standing. of_choice Answered _ (λ e. spared s image refusal.Memory refl (λ z. omega arith) (sym standing))
       (λ e. of_choice Answered _ (λ e. spared s image refusal.Image refl (λ z. omega arith) (sym standing))
-      (λ sound. followed_call standing (eqb-true _ _ (both (good_length (length image)) _ (not_false _ sound)).1)
+      (λ sound. followed_call standing (eqb-true _ _ (both (good_length (length image)) _ (not-false _ sound)).1)
       (how-read image s.offset s.dialect))))
 
 pub every_call : EveryCall

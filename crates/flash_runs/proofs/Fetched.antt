@@ -10,7 +10,7 @@ use native.Mathlib.Nat.{add-mul, mul-le-mul}
 use native.Mathlib.Omega.{arith}
 use lib.Dec.{eqb, leb}
 use lib.ListN.{length}
-use borrow.Author.Tests.{eqb-true, ne_eqb, leb-true, not_false}
+use borrow.Author.Tests.{eqb-true, ne_eqb, leb-true, not-false}
 use Rattle.words.proofs.Choice.{chosen, passed, both, by_test, of_choice}
 use Rattle.windows.specs.declared.Window.{Window}
 use Rattle.opcodes.specs.rules.Answers.{code_of}
@@ -45,7 +45,7 @@ unspared_lent s m image =
     of_choice Lent _ (λ e h. absurd (true≢false h))
     (λ e. of_choice Lent _ (λ e h. absurd (true≢false h))
     (λ e. of_choice Lent _ (λ e h. absurd (true≢false h))
-    (λ sound h. eqb-true _ _ (both (good_length (length image)) _ (not_false _ sound)).1)))
+    (λ sound h. eqb-true _ _ (both (good_length (length image)) _ (not-false _ sound)).1)))
 
 module _ (s : Session) (image : List ℕ) where
   -- what is prescribed, by the way of a call: all words of a command that is accepted
@@ -224,8 +224,8 @@ opened_standing dialect count windows image limit =
     of_choice (Stands limit (length image / 4)) _ (λ e. shut refl (omega (arith, none_for_map)) (omega (arith, none_for_map)))
     (λ e. of_choice (Stands limit (length image / 4)) _ (λ e. shut refl (omega (arith, none_for_image)) (omega (arith, none_for_image)))
     (λ sound.
-    let least = length_least (length image) (not_false _ sound) in
-    let small = length_small (length image) (not_false _ sound) in
+    let least = length_least (length image) (not-false _ sound) in
+    let small = length_small (length image) (not-false _ sound) in
     of_choice (Stands limit (length image / 4)) _ (λ e. shut refl (omega (arith, one_for_magic)) (omega (arith, one_for_magic, least)))
     (λ e. going
     (record {

@@ -7,7 +7,7 @@ use native.Mathlib.Omega.{arith}
 use native.Mathlib.Nat.{add-mul}
 use lib.Dec.{eqb}
 use lib.ListN.{length, length-append}
-use borrow.Author.Tests.{eqb-true, not_false}
+use borrow.Author.Tests.{eqb-true, not-false}
 use Rattle.words.proofs.Choice.{chosen, passed, by_test, of_choice}
 use Rattle.windows.specs.declared.Window.{Window}
 use Rattle.opcodes.specs.rules.Answers.{kind_of, told}
@@ -176,4 +176,4 @@ events_fit dialect count windows m image limit =
     of_choice (Fits m image limit) _ (λ e. refused_fits m image limit (refused_by refusal.Map 0) refl)
     (λ e. of_choice (Fits m image limit) _ (λ e. refused_fits m image limit (refused_by refusal.Image 0) refl)
     (λ sound. of_choice (Fits m image limit) _ (λ e. refused_fits m image limit (refused_by refusal.Magic 1) refl)
-    (λ e. begun_fits m image limit dialect _ (length_small (length image) (not_false _ sound)))))
+    (λ e. begun_fits m image limit dialect _ (length_small (length image) (not-false _ sound)))))

@@ -1,5 +1,5 @@
 -- Texts of digits and the numbers of their parts: each from the parts that a text is put together of.
-use Rattle.std.proofs.Common.{◌≡◌, ℕ, ◌+◌, ◌*◌, ◌^◌, ◌<◌, ◌≤◌, max, Bool, true, false, ◌&&◌, eqb, List, ◌++◌, length, get_or, take, drop, sym, ap, ◌∙◌, arith, length-drop, length-take, drop-cons, drop_drop, take-add, ne_eqb}
+use Rattle.std.proofs.Common.{◌≡◌, ℕ, ◌+◌, ◌*◌, ◌^◌, ◌<◌, ◌≤◌, max, Bool, true, false, ◌&&◌, eqb, List, ◌++◌, length, get_or, take, drop, sym, ap, ◌∙◌, arith, length-drop, length-take, drop-cons, drop-drop, take-add, ne_eqb}
 use mathlib.Core.Bool.{and-false}
 use Rattle.words.specs.rules.Bytes.{bytes_at}
 use Rattle.words.specs.rules.Choice.{pick}
@@ -35,7 +35,7 @@ pub word_parts : (text : List ℕ) (at n k : ℕ) → at + (n + k) ≤ length te
     → word_of (bytes_at text at (n + k)) ≡ word_of (bytes_at text at n) * 16 ^ k + word_of (bytes_at text (at + n) k)
 unfolding bytes_at
 word_parts text at n k h =
-    ap word_of (take-add n k (drop at text) ∙ ap (λ (l : List ℕ). take n (drop at text) ++ take k l) (drop_drop n at text))
+    ap word_of (take-add n k (drop at text) ∙ ap (λ (l : List ℕ). take n (drop at text) ++ take k l) (drop-drop n at text))
     ∙ number_append 16 (take n (drop at text)) (take k (drop (at + n) text))
     ∙ ap (λ (m : ℕ). word_of (take n (drop at text)) * 16 ^ m + word_of (take k (drop (at + n) text))) whole
   where

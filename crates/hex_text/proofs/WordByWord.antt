@@ -1,8 +1,8 @@
 -- A list turned word by word: how long it is, how one word more is laid into the room, and what is left when it is turned back. Both directions, text to
 -- image and image to text, are instances. By induction over the words.
-use Rattle.std.proofs.Common.{◌≡◌, ℕ, zero, suc, ◌+◌, ◌*◌, ◌<◌, ◌≤◌, List, ◌++◌, map, length, take, drop, sym, refl, ap, ◌∙◌, ap₂, append_assoc, append-nil, add_comm, mul-zero, mul-suc, add-one, arith, length-append, length-drop, drop_drop, take_at, take-add, drop_at}
+use Rattle.std.proofs.Common.{◌≡◌, ℕ, zero, suc, ◌+◌, ◌*◌, ◌<◌, ◌≤◌, List, ◌++◌, map, length, take, drop, sym, refl, ap, ◌∙◌, ap₂, append_assoc, append-nil, add_comm, mul-zero, mul-suc, add-one, arith, length-append, length-drop, drop-drop, take_at, take-add, drop_at}
 use mathlib.Core.List.{map-append}
-use lib.Seq.{take-append_seam, drop-append-add, sets, sets_eq}
+use lib.Seq.{take-append_seam, drop-append-add, sets, sets-eq}
 use Rattle.hex_text.specs.rules.Text.{each_word, laid}
 
 -- a room that holds a result is as long as before
@@ -15,10 +15,10 @@ laid_sets : (front more room : List ℕ) → length front + length more ≤ leng
     → sets (laid front room) (length front) more ≡ laid (front ++ more) room
 unfolding laid
 laid_sets front more room h =
-    sets_eq more (front ++ drop (length front) room) (length front) (rw length-append (simp length-drop (omega arith)))
+    sets-eq more (front ++ drop (length front) room) (length front) (rw length-append (simp length-drop (omega arith)))
     ∙ ap₂ (λ (before after : List ℕ). before ++ more ++ after)
     (take-append_seam front (drop (length front) room))
-    (drop-append-add front (drop (length front) room) (length more) ∙ drop_drop (length more) (length front) room)
+    (drop-append-add front (drop (length front) room) (length more) ∙ drop-drop (length more) (length front) room)
     ∙ ap (λ (n : ℕ). front ++ more ++ drop n room) (sym (length-append front more))
 
 module _ (size : ℕ) (turn : List ℕ → List ℕ) where
@@ -29,7 +29,7 @@ module _ (size : ℕ) (turn : List ℕ → List ℕ) where
   each_suc (suc n) l =
       ap (λ (rest : List ℕ). turn (take size l) ++ rest) (each_suc n (drop size l))
       ∙ ap (λ (last : List ℕ). turn (take size l) ++ (each_word size turn n (drop size l) ++ turn (take size last)))
-      (drop_drop (size * n) size l ∙ ap (λ (k : ℕ). drop k l) (add_comm size (size * n) ∙ sym (mul-suc size n)))
+      (drop-drop (size * n) size l ∙ ap (λ (k : ℕ). drop k l) (add_comm size (size * n) ∙ sym (mul-suc size n)))
       ∙ sym (append_assoc (turn (take size l)) (each_word size turn n (drop size l)) (turn (take size (drop (size * suc n) l))))
 
   -- where each word is turned into what a function of its elements gives, so is the whole

@@ -7,7 +7,7 @@ use native.Mathlib.Nat.{add-mul, sub-zero}
 use native.Mathlib.Omega.{arith}
 use lib.Dec.{leb, eqb}
 use lib.ListN.{length}
-use borrow.Author.Tests.{leb-true, eq-eqb, not_false}
+use borrow.Author.Tests.{leb-true, eq-eqb, not-false}
 use Rattle.words.specs.rules.Choice.{pick}
 use Rattle.words.proofs.Choice.{both, by_test, chosen, passed, of_choice}
 use Rattle.opcodes.specs.rules.Answers.{accepted}
@@ -134,4 +134,4 @@ opened_host_ends bus dialect image tries limit pings =
     let refused : (q : Refusal) → accepted q ≡ false → Mine (refused_by q) = unopened bus dialect image tries limit pings in
     of_choice Mine _ (λ e. refused refusal.Image refl)
     (λ good. of_choice Mine _ (λ e. refused refusal.Magic refl)
-    (λ e. of_choice Mine _ (λ e. refused refusal.Tries refl) (λ e. opened bus dialect image tries limit pings (not_false _ good))))
+    (λ e. of_choice Mine _ (λ e. refused refusal.Tries refl) (λ e. opened bus dialect image tries limit pings (not-false _ good))))

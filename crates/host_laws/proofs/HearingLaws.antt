@@ -8,7 +8,7 @@ use native.Mathlib.Omega.{arith}
 use lib.Dec.{leb, ltb, eqb, lit<, lit≤}
 use lib.ListN.{length, take, drop, length-append, length-take, length-drop, take-append-drop}
 use lib.Pow.{shr-shr, pow-add}
-use lib.Seq.{ext_get_or, get_or-drop, drop_drop, drop-append-add, drop_at, length-take-le}
+use lib.Seq.{ext_get_or, get_or-drop, drop-drop, drop-append-add, drop_at, length-take-le}
 use borrow.Author.Tests.{eq-eqb, eqb-true, leb-true, le-leb, ltb-true}
 use Rattle.words.specs.rules.Bits.{join}
 use Rattle.words.specs.rules.Bytes.{byte, number, AreBytes, words_bytes}
@@ -142,7 +142,7 @@ module _ (bs : List ℕ) (of-bs : AreBytes bs) where
       = last_is bs no_bytes nothing_heard refl of-bs none ∙ ap number (the_end bs 0 (0 ∷ 0 ∷ 0 ∷ 0 ∷ 0 ∷ 0 ∷ 0 ∷ [])) in
       ap₂ (λ (l k : ℕ). l / 2 ^ k) last place
       ∙ number_above (8 - n) (drop (length bs) (no_bytes ++ bs))
-      ∙ ap number (drop_drop (8 - n) (length bs) (no_bytes ++ bs))
+      ∙ ap number (drop-drop (8 - n) (length bs) (no_bytes ++ bs))
       ∙ ap (λ (k : ℕ). number (drop k (no_bytes ++ bs))) sum
       ∙ ap number (drop-append-add no_bytes bs (length bs - n))
 

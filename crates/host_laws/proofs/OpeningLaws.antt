@@ -4,7 +4,7 @@ use mathlib.Core.Bool.{true, false, not, true≢false}
 use mathlib.Core.List.{List, [], ◌∷◌}
 use mathlib.Core.Path.{◌≡◌, refl, sym, ◌∙◌}
 use lib.ListN.{length}
-use borrow.Author.Tests.{not_true, not_false}
+use borrow.Author.Tests.{not-true, not-false}
 use Rattle.words.proofs.Choice.{chosen, of_choice}
 use Rattle.opcodes.specs.rules.Answers.{code_of, accepted}
 use Rattle.opcodes.specs.declared.Dialect.{Dialect}
@@ -40,23 +40,23 @@ module _ (bus : Bus) (dialect : Dialect) (image : List ℕ) (tries limit pings :
       let Mine : Opened → Type 0 = Opening bus dialect image tries limit pings in
       of_choice Mine (not (good_length (length image)))
       (λ e.
-      let bad : good_length (length image) ≡ false = not_true _ e in
+      let bad : good_length (length image) ≡ false = not-true _ e in
       closed refusal.Image refl (record { three = sym (rw bad); four = sym (rw bad); twenty = sym (rw bad); opens = sym (rw bad) }))
       (λ e.
-      let good : good_length (length image) ≡ true = not_false _ e in
+      let good : good_length (length image) ≡ true = not-false _ e in
       of_choice Mine (not (has_magic image))
       (λ e.
-      let bad : has_magic image ≡ false = not_true _ e in
+      let bad : has_magic image ≡ false = not-true _ e in
       closed refusal.Magic refl (record { three = sym (rw good); four = sym (rw (good, bad)); twenty = sym (rw (good, bad)); opens = sym (rw (good, bad)) }))
       (λ e.
-      let magic : has_magic image ≡ true = not_false _ e in
+      let magic : has_magic image ≡ true = not-false _ e in
       of_choice Mine (not (in_range tries))
       (λ e.
-      let bad : in_range tries ≡ false = not_true _ e in
+      let bad : in_range tries ≡ false = not-true _ e in
       closed refusal.Tries refl
       (record { three = sym (rw good); four = sym (rw (good, magic)); twenty = sym (rw (good, magic, bad)); opens = sym (rw (good, magic, bad)) }))
       (λ e.
-      let fine : in_range tries ≡ true = not_false _ e in
+      let fine : in_range tries ≡ true = not-false _ e in
       record {
         codes = record { three = sym (rw good); four = sym (rw (good, magic)); twenty = sym (rw (good, magic, fine)); opens = sym (rw (good, magic, fine)) };
         opened = λ e.

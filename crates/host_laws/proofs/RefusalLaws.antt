@@ -5,7 +5,7 @@ use mathlib.Core.List.{List}
 use mathlib.Core.Path.{◌≡◌, refl, sym, ap, ◌∙◌}
 use lib.Dec.{ltb, eqb}
 use lib.ListN.{length}
-use borrow.Author.Tests.{not_true}
+use borrow.Author.Tests.{not-true}
 use Rattle.words.specs.rules.Choice.{pick}
 use Rattle.words.proofs.Choice.{chosen, passed, both, of_choice}
 use Rattle.opcodes.specs.rules.Answers.{code_of, accepted}
@@ -136,5 +136,5 @@ unfolding turned
 judged_before_the_opcode h image turn none =
     let parts = both (not h.ended) (is_lent h image) turn in
     ap (λ (t : Turned). t.refusal)
-    (passed _ _ _ (not_true _ parts.0) ∙ passed _ _ _ (ap not parts.1) ∙ ap (λ (before : Wait). in_wait before h image) none)
+    (passed _ _ _ (not-true _ parts.0) ∙ passed _ _ _ (ap not parts.1) ∙ ap (λ (before : Wait). in_wait before h image) none)
     ∙ met_refusal h image (read_at image h.offset h.dialect)

@@ -5,7 +5,7 @@ use mathlib.Core.List.{List}
 use mathlib.Core.Path.{◌≡◌, refl, sym, ap, ◌∙◌}
 use native.Mathlib.Omega.{arith}
 use lib.Dec.{leb, eqb}
-use borrow.Author.Tests.{ltb-true, ltb-false, leb-true, leb-false, eqb-true, ne_eqb, le-leb, lt-leb, not_true, not_false}
+use borrow.Author.Tests.{ltb-true, ltb-false, leb-true, leb-false, eqb-true, ne_eqb, le-leb, lt-leb, not-true, not-false}
 use Rattle.words.specs.rules.Bytes.{word_at}
 use Rattle.words.specs.rules.Choice.{pick}
 use Rattle.words.proofs.Choice.{chosen, passed, both, of_choice}
@@ -237,10 +237,10 @@ module _ (h : Host) (image : List ℕ) where
       let long : leb 4 h.ear.count ≡ true = le-leb 4 h.ear.count (ltb-false _ _ four) in
       of_choice Mine _
       (λ e.
-      let other : eqb (newest h.ear 4) (echoed h k) ≡ false = not_true _ e in
+      let other : eqb (newest h.ear 4) (echoed h k) ≡ false = not-true _ e in
       twenty {before = wait.Echo k} (rw (long, other, or-true)) refl)
       (λ e.
-      let same : eqb (newest h.ear 4) (echoed h k) ≡ true = not_false _ e in
+      let same : eqb (newest h.ear 4) (echoed h k) ≡ true = not-false _ e in
       let right : Right (wait.Echo k) = record { right = rw (long, same); fine = rw (long, same) } in
       let after : echoed h (k + 1) ≡ k + 1 = passed _ _ _ (ne_eqb (k + 1) 0 (λ z. omega arith)) in
       of_choice Mine _ (λ more. rw after (goes right (out.begins (out.echoed (ltb-true _ _ more)))))
@@ -264,5 +264,5 @@ module _ (h : Host) (image : List ℕ) where
       of_choice Way _ (λ ended. over ended (ap (λ (e : Bool). not e && is_lent h image) ended))
       (λ running.
       let turn : is_turn h image ≡ is_lent h image = ap (λ (e : Bool). not e && is_lent h image) running in
-      of_choice Way _ (λ e. let other = not_true _ e in another running other (turn ∙ other))
-      (λ e. let lent = not_false _ e in looks running lent (turn ∙ lent) (wait_looked h.stage.wait)))
+      of_choice Way _ (λ e. let other = not-true _ e in another running other (turn ∙ other))
+      (λ e. let lent = not-false _ e in looks running lent (turn ∙ lent) (wait_looked h.stage.wait)))

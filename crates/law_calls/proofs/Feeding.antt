@@ -51,13 +51,13 @@ pub record Passed (bus : Bus) (o : Opened) (memory lent room : ℕ) : Type 0 whe
   pub held : eqb memory (sum_of o.session.core.windows) ≡ true
   pub wide : roomy bus lent room ≡ true
 
-not_false : (t : Bool) → not t ≡ false → t ≡ true
-not_false true e = refl
-not_false false e = absurd (true≢false e)
+not-false : (t : Bool) → not t ≡ false → t ≡ true
+not-false true e = refl
+not-false false e = absurd (true≢false e)
 
-not_true : (t : Bool) → not t ≡ true → t ≡ false
-not_true true e = absurd (false≢true e)
-not_true false e = refl
+not-true : (t : Bool) → not t ≡ true → t ≡ false
+not-true true e = absurd (false≢true e)
+not-true false e = refl
 
 module _ (bus : Bus) (o : Opened) (memory lent room : ℕ) where
   record Goes (q : Refusal) : Type 0 where
@@ -67,10 +67,10 @@ module _ (bus : Bus) (o : Opened) (memory lent room : ℕ) where
   unfolding refused_before
   goes_on =
       of_choice Goes (not (accepted o.refusal)) {a = o.refusal}
-      (λ no. record { goes = λ e. absurd (true≢false (sym e ∙ not_true (accepted o.refusal) no)) })
+      (λ no. record { goes = λ e. absurd (true≢false (sym e ∙ not-true (accepted o.refusal) no)) })
       (λ opened. of_choice Goes (not (eqb memory (sum_of o.session.core.windows))) {a = refusal.Memory} (λ no. record { goes = λ e. absurd (false≢true e) })
       (λ held. of_choice Goes (not (roomy bus lent room)) {a = refusal.Call} {b = refusal.None} (λ no. record { goes = λ e. absurd (false≢true e) })
-      (λ wide. record { goes = λ e. record { opened = not_false _ opened; held = not_false _ held; wide = not_false _ wide } })))
+      (λ wide. record { goes = λ e. record { opened = not-false _ opened; held = not-false _ held; wide = not-false _ wide } })))
 
   pub begins_passed : accepted (refused_before bus o memory lent room) ≡ true → Passed bus o memory lent room
   begins_passed e = goes_on.goes e

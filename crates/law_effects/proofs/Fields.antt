@@ -9,7 +9,7 @@ use native.Mathlib.Omega.{arith}
 use lib.Dec.{eqb, leb}
 use lib.ListN.{length}
 use lib.Pow.{pow_pos}
-use borrow.Author.Tests.{le-leb, leb-true, leb-false, eqb-true, eqb-false, not_false}
+use borrow.Author.Tests.{le-leb, leb-true, leb-false, eqb-true, eqb-false, not-false}
 use Rattle.words.specs.rules.Bits.{bit, join, with_field}
 use Rattle.words.specs.rules.Bytes.{byte, number, bytes_at, word_at, put, size_of, fits, field_fits, field_written}
 use Rattle.words.specs.rules.Choice.{pick}
@@ -143,7 +143,7 @@ module _ (windows : List Window) (word address value : ℕ) where
   setting_case : ShapeCase (shape_of word)
   unfolding shape_of
   setting_case =
-      of_choice ShapeCase _ (λ e. another (Refused refusal.TypeWord) refl) (λ e. kind_case (eqb-true _ _ (not_false _ e)))
+      of_choice ShapeCase _ (λ e. another (Refused refusal.TypeWord) refl) (λ e. kind_case (eqb-true _ _ (not-false _ e)))
 
 pub field_laws : FieldLaws
 unfolding pick bit join with_field byte number bytes_at put fits field_fits field_written window.has_right window.inside window.grants_range window.place_from place_of

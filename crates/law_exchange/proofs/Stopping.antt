@@ -3,7 +3,7 @@ use mathlib.Core.Bool.{true, false, true≢false}
 use Prim.Native.Nat.{ℕ}
 use mathlib.Core.List.{List}
 use mathlib.Core.Path.{◌≡◌, sym, ◌∙◌}
-use borrow.Author.Tests.{eqb-true, not_false}
+use borrow.Author.Tests.{eqb-true, not-false}
 use Rattle.opcodes.specs.rules.Answers.{code_of, kind_of}
 use Rattle.flash_commands.specs.claims.Ways.{Way, forward, back, kept}
 use Rattle.flash.specs.rules.Step.{step_of}
@@ -21,5 +21,5 @@ entered_by s image a accepted over (kept k) = absurd (k.refused accepted)
 pub stops_entered : (s : Session) (m image : List ℕ) → code_of (step_of s m image).answer.refusal ≡ 0 → goes_on (step_of s m image).answer ≡ false
     → kind_of (step_of s m image).answer.event ≡ 3
 stops_entered s m image accepted off =
-    entered_by s image (step_of s m image).answer accepted (not_false _ (sym (accepted_goes (step_of s m image).answer accepted) ∙ off))
+    entered_by s image (step_of s m image).answer accepted (not-false _ (sym (accepted_goes (step_of s m image).answer accepted) ∙ off))
     (every_call s m image).way

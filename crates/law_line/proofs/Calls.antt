@@ -8,7 +8,7 @@ use mathlib.Core.Path.{◌≡◌, refl, sym, ap, subst, ◌∙◌}
 use native.Mathlib.Omega.{arith}
 use lib.Dec.{eqb}
 use lib.ListN.{length}
-use borrow.Author.Tests.{eqb-true, not_true, not_false}
+use borrow.Author.Tests.{eqb-true, not-true, not-false}
 use Rattle.words.specs.rules.Bytes.{word_at}
 use Rattle.words.proofs.Choice.{both}
 use Rattle.windows.specs.rules.Window.{sum_of}
@@ -67,10 +67,10 @@ pub goes_means : (a : Called) → goes_on a ≡ true → (code_of a.refusal ≡ 
 unfolding goes_on
 goes_means a e =
     let parts = both (accepted a.refusal) (not a.session.ended) e in
-    (eqb-true _ _ parts.0, not_true _ parts.1)
+    (eqb-true _ _ parts.0, not-true _ parts.1)
 
 pub stops_means : (a : Called) → goes_on a ≡ false → code_of a.refusal ≡ 0 → a.session.ended ≡ true
-stops_means a e none = not_false _ (sym (accepted_goes a none) ∙ e)
+stops_means a e none = not-false _ (sym (accepted_goes a none) ∙ e)
 
 pub stopped_stops : (q : Refusal) (s : Session) (m : List ℕ) → Stopped m (stopped q s leaving m)
 unfolding goes_on

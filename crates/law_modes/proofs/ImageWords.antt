@@ -5,7 +5,7 @@ use mathlib.Core.Path.{◌≡◌, refl, sym, ap, ap₂, ◌∙◌}
 use native.Mathlib.Omega.{arith}
 use lib.Dec.{lit<}
 use lib.ListN.{length, get_or, take, drop, length-drop}
-use lib.Seq.{get_or-drop, take-take, drop_drop, take-add}
+use lib.Seq.{get_or-drop, take-take, drop-drop, take-add}
 use Rattle.words.specs.rules.Bytes.{number, bytes_at, word_at}
 use Rattle.words.proofs.Numbers.{byte_number}
 use Rattle.words.specs.rules.Bytes.{words_bytes}
@@ -41,7 +41,7 @@ module _ (image : List ℕ) (small : (i : ℕ) → get_or image i 0 < 256) where
       let more : 4 * suc n ≡ 4 + 4 * n = omega arith in
       ap₂ (λ (first rest : List ℕ). first ++ rest)
       (first_word (drop at image) (simp length-drop (omega arith)) (λ i. rw (get_or-drop at image i 0) (small (at + i))))
-      (words-bytes n (at + 4) (omega arith) ∙ ap (take (4 * n)) (sym (drop_drop 4 at image)))
+      (words-bytes n (at + 4) (omega arith) ∙ ap (take (4 * n)) (sym (drop-drop 4 at image)))
       ∙ sym (ap (λ (k : ℕ). take k (drop at image)) more ∙ take-add 4 (4 * n) (drop at image))
 
   -- as many of them as a load has

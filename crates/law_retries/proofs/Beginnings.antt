@@ -9,7 +9,7 @@ use mathlib.Core.Path.{◌≡◌, refl, sym, ap, ap₂, subst, ◌∙◌}
 use native.Mathlib.Omega.{arith}
 use lib.Dec.{eqb, lit<}
 use lib.ListN.{length, get_or}
-use borrow.Author.Tests.{eq-eqb, ne_eqb, eqb-true, not_true, not_false}
+use borrow.Author.Tests.{eq-eqb, ne_eqb, eqb-true, not-true, not-false}
 use Rattle.words.specs.rules.Bytes.{byte}
 use Rattle.words.specs.rules.Choice.{pick}
 use Rattle.words.proofs.Choice.{both, by_test, of_choice}
@@ -211,7 +211,7 @@ unfolding unit_step carried
 answered_start bus x u =
     of_choice (StartUnitIf bus x u) _ (λ h z. absurd (not_silence bus z))
     (λ running. of_choice (StartUnitIf bus x u) _ (λ h z. absurd (not_silence bus z))
-    (λ lent. of_choice (StartUnitIf bus x u) _ (λ start z. record { running = running; lent = eqb-true _ _ (not_false _ lent); start = start })
+    (λ lent. of_choice (StartUnitIf bus x u) _ (λ start z. record { running = running; lent = eqb-true _ _ (not-false _ lent); start = start })
     (λ h. of_choice (StartUnitIf bus x u) _ (λ h z. absurd (not_silence bus z))
     (λ h. of_choice (StartUnitIf bus x u) _ (λ h z. absurd (not_silence bus z))
     (λ h z. absurd (not_words bus _ (every_word x.session.core x.memory _).words z))))))
@@ -220,7 +220,7 @@ answered_start bus x u =
 at-word : (started begun : Bool) (have : ℕ) → (not started || (eqb have 0 && not begun)) ≡ true → (started ≡ false → (have ≡ 0) × (begun ≡ false))
     → (have ≡ 0) × (begun ≡ false)
 at-word false begun have e unstarted = unstarted refl
-at-word true begun have e unstarted = let parts = both (eqb have 0) (not begun) e in (eqb-true have 0 parts.0, not_true begun parts.1)
+at-word true begun have e unstarted = let parts = both (eqb have 0) (not begun) e in (eqb-true have 0 parts.0, not-true begun parts.1)
 
 module _ (bus : Bus) (x : State) (reached : Reached bus x.session) where
   -- an idle session awaits an opcode

@@ -6,7 +6,7 @@ use mathlib.Core.Path.{◌≡◌, refl, ap, subst, ◌∙◌}
 use denote.Enum.Declared.{tag_of}
 use types.Run.{OneOf, miss}
 use lib.ListN.{length}
-use borrow.Author.Tests.{le-leb, lt-leb, leb-true, leb-false, not_true, not_false}
+use borrow.Author.Tests.{le-leb, lt-leb, leb-true, leb-false, not-true, not-false}
 use Rattle.words.specs.rules.Bytes.{word_at}
 use Rattle.words.proofs.Choice.{chosen, passed, of_choice}
 use Rattle.opcodes.specs.rules.Opcodes.{looked_up}
@@ -74,14 +74,14 @@ module _ (image : List ℕ) where
       by_row Unknown e here = unknown here e
       by_row Retired e here = retired here e
       by_row (Known command words) e here =
-          of_choice Reads _ (λ short. cut_short here e (are_lacking offset (1 + words) (not_true _ short)))
-          (λ long. whole e (are_there offset (1 + words) (not_false _ long)))
+          of_choice Reads _ (λ short. cut_short here e (are_lacking offset (1 + words) (not-true _ short)))
+          (λ long. whole e (are_there offset (1 + words) (not-false _ long)))
 
       pub reads : Reads (read_at image offset dialect)
       unfolding read_at
       reads =
-          of_choice Reads _ (λ none. no_opcode (are_lacking offset 1 (not_true _ none)))
-          (λ some. by_row (looked_up (word_at image offset) Flash dialect) refl (are_there offset 1 (not_false _ some)))
+          of_choice Reads _ (λ none. no_opcode (are_lacking offset 1 (not-true _ none)))
+          (λ some. by_row (looked_up (word_at image offset) Flash dialect) refl (are_there offset 1 (not-false _ some)))
 
       -- a command that is read has its words there
       abbrev Ends : Read → Type 0

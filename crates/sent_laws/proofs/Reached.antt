@@ -4,7 +4,7 @@ use mathlib.Core.Bool.{Bool, true, false, true≢false}
 use mathlib.Core.List.{List}
 use mathlib.Core.Path.{◌≡◌, refl, sym, ap, subst, ◌∙◌}
 use native.Mathlib.Omega.{arith}
-use borrow.Author.Tests.{not_false}
+use borrow.Author.Tests.{not-false}
 use lib.ListN.{length}
 use Rattle.words.specs.rules.Bytes.{AreBytes}
 use Rattle.words.specs.rules.Choice.{pick}
@@ -78,7 +78,7 @@ module _ (first : Core) where
       (λ h. of_choice SoundAfter _ (λ h. gathered_sound s _ _ sound sound.gathered)
       (λ h. of_choice SoundAfter _ (λ h. sound)
       (λ since. of_choice SoundAfter _ (λ h. gathered_sound s _ _ sound (λ z. absurd (omega (arith, z))))
-      (λ h. carried_sound s m _ sound (not_false _ since))))))
+      (λ h. carried_sound s m _ sound (not-false _ since))))))
 
 -- a session at its opening, refused or not: nothing has come, the checksum is 0, and the totals and the next number stand at their mark
 pub record Unused (s : Session) : Type 0 where

@@ -4,7 +4,7 @@ use mathlib.Core.List.{List}
 use mathlib.Core.Path.{◌≡◌, ap, ap₂, ◌∙◌}
 use native.Mathlib.Omega.{arith}
 use lib.ListN.{length, take, drop, length-take, length-drop}
-use lib.Seq.{drop_drop}
+use lib.Seq.{drop-drop}
 use Rattle.words.specs.rules.Bytes.{number}
 use Rattle.checksum.specs.rules.Checksum.{fed}
 use Rattle.stores.specs.rules.Stores.{words_fed}
@@ -22,7 +22,7 @@ module _ (bytes : List ℕ) (at : ℕ) where
       let taken : length (take 4 (drop at bytes)) ≡ min (min 4 (length bytes - at)) 4 = simp (length-take, length-drop) few in
       ap (λ (n : ℕ). words_fed r n (drop at bytes)) more
       ∙ ap₂ (λ (k : ℕ) (left : List ℕ). words_fed (fed r (number (take 4 (drop at bytes))) (8 * k)) ((length bytes - (at + 4) + 3) / 4) left)
-      taken (drop_drop 4 at bytes)
+      taken (drop-drop 4 at bytes)
 
   -- none is left at the end
   pub no_word : (r : ℕ) → length bytes ≤ at → words_fed r ((length bytes - at + 3) / 4) (drop at bytes) ≡ r

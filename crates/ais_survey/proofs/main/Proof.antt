@@ -2,7 +2,7 @@
 use mathlib.Core.Path.{◌≡◌, sym, ◌∙◌}
 use lib.ListN.{length}
 use borrow.Author.Rules.{rules}
-use borrow.Author.Tests.{not_true}
+use borrow.Author.Tests.{not-true}
 use Rattle.survey.proofs.Ends.{lines_left, one_fewer}
 use Rattle.ais_survey.proofs.main.Statement.{statement}
 use Rattle.ais_survey.proofs.main.Tie as tie
@@ -56,7 +56,7 @@ including-requires c κs = search rules
 loop-less : tie.Need-loop-smaller invariant-loop decreases-loop
 loop-less c =
     let asked = c.before.before.before.before.before.before.before.before.before.before.before.before.before.before.before in
-    let more = sym asked.before.is-full.ensures ∙ not_true _ asked.if1.true in
+    let more = sym asked.before.is-full.ensures ∙ not-true _ asked.if1.true in
     rw c.before.including.ensures (one_fewer asked.before.before.loop.survey _ more)
 
 loop-again : tie.Need-loop-preserved invariant-loop decreases-loop

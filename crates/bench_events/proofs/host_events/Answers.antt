@@ -1,7 +1,7 @@
 -- `bench_events::host_events` meets its contract: refused before it begins, or the exchange with its events told.
 use borrow.Author.Rules.{rules}
 use mathlib.Core.Path.{sym, ◌∙◌}
-use borrow.Author.Tests.{not_true, not_false}
+use borrow.Author.Tests.{not-true, not-false}
 use Rattle.bench_events.proofs.Telling.{host_unnamed, host_short, host_barred, host_exchanged}
 use Rattle.bench_events.proofs.host_events.Goals as goal
 
@@ -9,26 +9,26 @@ pub returns-then-not-are_named : goal.returns-then-not-are_named
 returns-then-not-are_named c =
     let a = c.args in
     host_unnamed a.line a.dialect a.map.now a.memory.now a.image.now a.tries a.limit a.pings a.room.now
-    (sym c.are_named.ensures ∙ not_true _ c.if-not-are_named.true) c.refuse.ensures
+    (sym c.are_named.ensures ∙ c.if-not-are_named.true) c.refuse.ensures
 
 pub returns-then-is_short : goal.returns-then-is_short
 returns-then-is_short c =
     let a = c.args in
     host_short a.line a.dialect a.map.now a.memory.now a.image.now a.tries a.limit a.pings a.room.now
-    (sym c.are_named.ensures ∙ not_false _ c.if-not-are_named.false) (sym c.is_short.ensures ∙ c.if-is_short.true)
+    (sym c.are_named.ensures ∙ c.if-not-are_named.false) (sym c.is_short.ensures ∙ c.if-is_short.true)
     c.refuse-then-is_short.ensures
 
 pub returns-then-code-ne0 : goal.returns-then-code-ne0
 returns-then-code-ne0 c =
     let a = c.args in
     host_barred a.line a.dialect a.map.now a.memory.now a.image.now a.tries a.limit a.pings a.room.now
-    (sym c.are_named.ensures ∙ not_false _ c.if-not-are_named.false) (sym c.is_short.ensures ∙ c.if-is_short.false)
+    (sym c.are_named.ensures ∙ c.if-not-are_named.false) (sym c.is_short.ensures ∙ c.if-is_short.false)
     c.bar-refusal.ensures (λ e. c.if-code-ne0.true (c.code.ensures ∙ e)) c.refuse-then-code-ne0.ensures
 
 pub returns : goal.returns
 returns c =
     let a = c.args in
     host_exchanged a.line a.dialect a.map.now a.memory.now a.image.now a.tries a.limit a.pings a.room.now
-    (sym c.are_named.ensures ∙ not_false _ c.if-not-are_named.false) (sym c.is_short.ensures ∙ c.if-is_short.false)
+    (sym c.are_named.ensures ∙ c.if-not-are_named.false) (sym c.is_short.ensures ∙ c.if-is_short.false)
     c.bar-refusal.ensures (sym c.code.ensures ∙ c.if-code-ne0.false) c.line_of-bus.ensures c.dialect_of.ensures
     c.count_of.ensures c.windows_of.ensures c.exchange-exchanged.ensures c.value_of.ensures

@@ -1,7 +1,7 @@
 -- `bench_hosts::open_host` meets its contract: another length, line or dialect, or the opening.
 use borrow.Author.Rules.{rules}
 use mathlib.Core.Path.{refl, sym, ◌∙◌}
-use borrow.Author.Tests.{not_true, not_false}
+use borrow.Author.Tests.{not-true, not-false}
 use Rattle.bench_hosts.proofs.Calls.{same_call, not_a_host, not_named, opened_call}
 use Rattle.bench_hosts.proofs.open_host.Goals as goal
 
@@ -16,12 +16,12 @@ returns-then-not-are_named c =
     let a = c.args in
     same_call c.code-then-not-are_named.ensures refl
     ∙ not_named a.host.now a.line a.dialect a.image.now a.tries a.limit a.pings
-    (sym c.are_named.ensures ∙ not_true _ c.if-not-are_named.true)
+    (sym c.are_named.ensures ∙ c.if-not-are_named.true)
 
 pub returns : goal.returns
 returns c =
     let a = c.args in
-    let named = sym c.are_named.ensures ∙ not_false _ c.if-not-are_named.false in
+    let named = sym c.are_named.ensures ∙ c.if-not-are_named.false in
     opened_call a.host.now a.line a.dialect a.image.now a.tries a.limit a.pings c.if-host-ne-HOST_BYTES.false named
     c.line_of-bus.ensures c.dialect_of.ensures c.open-opened.ensures c.code-2.ensures
     c.write_host.ensures

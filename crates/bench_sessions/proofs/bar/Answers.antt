@@ -1,7 +1,7 @@
 -- `bench_sessions::bar` meets its contract: each way is one test of the chain, after those before it.
 use borrow.Author.Rules.{rules}
 use mathlib.Core.Path.{sym, ◌∙◌}
-use borrow.Author.Tests.{not_true, not_false}
+use borrow.Author.Tests.{not-true, not-false}
 use Rattle.bench_sessions.proofs.Barring.{bar_map, bar_chosen, bar_opening, bar_numbers, bar_memory, bar_none}
 use Rattle.bench_sessions.proofs.bar.Goals as goal
 
@@ -20,16 +20,16 @@ returns-then-number-ne0 c =
 pub returns-then-not-is_for : goal.returns-then-not-is_for
 returns-then-not-is_for c =
     sym (bar_numbers _ _ _ _ _ (λ e. c.if-number-eq1.false (c.code-number.ensures ∙ e)) (sym c.code.ensures ∙ c.if-code-ne0.false)
-    (sym c.code-number.ensures ∙ c.if-number-ne0.false) (sym c.is_for.ensures ∙ not_true _ c.if-not-is_for.true))
+    (sym c.code-number.ensures ∙ c.if-number-ne0.false) (sym c.is_for.ensures ∙ c.if-not-is_for.true))
 
 pub returns-then-memory-sum : goal.returns-then-memory-sum
 returns-then-memory-sum c =
     sym (bar_memory _ _ _ _ _ (λ e. c.if-number-eq1.false (c.code-number.ensures ∙ e)) (sym c.code.ensures ∙ c.if-code-ne0.false)
-    (sym c.code-number.ensures ∙ c.if-number-ne0.false) (sym c.is_for.ensures ∙ not_false _ c.if-not-is_for.false)
+    (sym c.code-number.ensures ∙ c.if-number-ne0.false) (sym c.is_for.ensures ∙ c.if-not-is_for.false)
     c.if-memory-sum.true)
 
 pub returns : goal.returns
 returns c =
     sym (bar_none _ _ _ _ _ (λ e. c.if-number-eq1.false (c.code-number.ensures ∙ e)) (sym c.code.ensures ∙ c.if-code-ne0.false)
-    (sym c.code-number.ensures ∙ c.if-number-ne0.false) (sym c.is_for.ensures ∙ not_false _ c.if-not-is_for.false)
+    (sym c.code-number.ensures ∙ c.if-number-ne0.false) (sym c.is_for.ensures ∙ c.if-not-is_for.false)
     c.if-memory-sum.false)

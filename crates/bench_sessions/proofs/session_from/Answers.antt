@@ -6,7 +6,7 @@ use mathlib.Core.Path.{sym, ap, ◌∙◌}
 use Prim.Native.Nat.{ℕ}
 use native.Mathlib.Omega.{arith}
 use lib.ListN.{length, take}
-use borrow.Author.Tests.{not_true, not_false}
+use borrow.Author.Tests.{not-true, not-false}
 use Rattle.windows.specs.rules.Window.{sum_of}
 use Rattle.opcodes.specs.rules.Answers.{code_of}
 use Rattle.sent.specs.rules.Bus.{units_fed}
@@ -35,20 +35,20 @@ returns-then-not-is_roomy c =
     let a = c.args in
     let opened = sym c.code.ensures ∙ c.if-code-ne0.false in
     let lent = c.if-memory-sum.false ∙ c.sum.ensures in
-    let narrow = sym c.is_roomy.ensures ∙ not_true _ c.if-not-is_roomy.true in
+    let narrow = sym c.is_roomy.ensures ∙ c.if-not-is_roomy.true in
     from_refused a.bus a.opened _ a.memory.now a.numbers.now a.fed.now a.room.now
     (before_narrow a.bus a.opened _ _ _ opened lent narrow) (λ e. omega arith) c.refuse-then-not-is_roomy.ensures
 
 pub feed_all-requires : goal.feed_all-requires
 feed_all-requires c =
-    (c.requires, has_room c.args.bus c.args.fed.now _ (sym c.is_roomy.ensures ∙ not_false _ c.if-not-is_roomy.false))
+    (c.requires, has_room c.args.bus c.args.fed.now _ (sym c.is_roomy.ensures ∙ c.if-not-is_roomy.false))
 
 pub returns : goal.returns
 returns c =
     let a = c.args in
     let opened = sym c.code.ensures ∙ c.if-code-ne0.false in
     let lent = c.if-memory-sum.false ∙ c.sum.ensures in
-    let wide = sym c.is_roomy.ensures ∙ not_false _ c.if-not-is_roomy.false in
+    let wide = sym c.is_roomy.ensures ∙ c.if-not-is_roomy.false in
     let units = units_fed a.bus a.fed.now in
     let places = take a.chosen a.places.now in
     c.feed_all.ensures

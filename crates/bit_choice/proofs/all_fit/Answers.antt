@@ -1,7 +1,7 @@
 -- `bit_choice::all_fit` meets its contract: the words that are left fit where all of them do.
 use Prim.Native.Nat.{◌-◌, ◌≤◌}
 use mathlib.Core.Path.{◌≡◌, sym, ◌∙◌}
-use borrow.Author.Tests.{not_true, not_false}
+use borrow.Author.Tests.{not-true, not-false}
 use Rattle.bit_choice.specs.rules.Chosen.{addresses_from, all_fit}
 use Rattle.bit_choice.proofs.Choosing.{left, fit_start, fit_none, fit_not, fit_again, fit_on}
 use borrow.Author.Rules.{rules}
@@ -15,7 +15,7 @@ returns-then-not-may_be_chosen c =
     let a = c.args in
     let word = c.word_at-address in
     fit_not a.bytes.now a.count c.loop-i.i (search rules) word.result word.ensures a.windows
-    (sym c.may_be_chosen.ensures ∙ not_true _ c.if-not-may_be_chosen.true)
+    (sym c.may_be_chosen.ensures ∙ c.if-not-may_be_chosen.true)
     ∙ c.loop-i.invariant.1
 
 pub returns-then-comes_again : goal.returns-then-comes_again
@@ -23,7 +23,7 @@ returns-then-comes_again c =
     let a = c.args in
     let word = c.word_at-address in
     fit_again a.bytes.now a.count c.loop-i.i (search rules) word.result word.ensures a.windows
-    (sym c.may_be_chosen.ensures ∙ not_false _ c.if-not-may_be_chosen.false)
+    (sym c.may_be_chosen.ensures ∙ c.if-not-may_be_chosen.false)
     (sym c.comes_again.ensures ∙ c.if-comes_again.true)
     ∙ c.loop-i.invariant.1
 
@@ -33,7 +33,7 @@ loop-i-preserved c =
     let word = c.word_at-address in (
       search rules,
       fit_on a.bytes.now a.count c.loop-i.i (search rules) word.result word.ensures a.windows
-          (sym c.may_be_chosen.ensures ∙ not_false _ c.if-not-may_be_chosen.false)
+          (sym c.may_be_chosen.ensures ∙ c.if-not-may_be_chosen.false)
           (sym c.comes_again.ensures ∙ c.if-comes_again.false)
           ∙ c.loop-i.invariant.1,
     )

@@ -1,7 +1,7 @@
 -- What each turn keeps.
 use Prim.Native.Nat.{◌-◌, ◌≤◌}
 use mathlib.Core.Path.{◌≡◌, sym, ◌∙◌}
-use borrow.Author.Tests.{not_true, not_false}
+use borrow.Author.Tests.{not-true, not-false}
 use Rattle.bit_choice.specs.rules.Chosen.{addresses_from, all_fit}
 use Rattle.bit_choice.proofs.Choosing.{left, fit_start, fit_none, fit_not, fit_again, fit_on}
 use borrow.Author.Rules.{rules}

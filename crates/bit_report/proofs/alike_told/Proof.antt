@@ -2,7 +2,7 @@
 use borrow.Author.Rules.{rules}
 use mathlib.Core.Path.{sym, ap, ◌∙◌}
 use mathlib.Core.Bool.{Bool, ◌&&◌}
-use borrow.Author.Tests.{not_true, not_false}
+use borrow.Author.Tests.{not-true, not-false}
 use Rattle.bit_report.specs.rules.Parts.{same_field, alike}
 use Rattle.bit_report.proofs.alike_told.Statement.{statement}
 use Rattle.bit_report.proofs.alike_told.Tie as tie
@@ -14,7 +14,7 @@ returns : tie.Need-returns
 unfolding alike
 returns c =
     let a = c.before.before.args in
-    sym (ap (λ (t : Bool). t && same_field a.a.field a.b.field) (sym c.before.same_writer.ensures ∙ not_true _ c.if1.true))
+    sym (ap (λ (t : Bool). t && same_field a.a.field a.b.field) (sym c.before.same_writer.ensures ∙ not-true _ c.if1.true))
 
 same-name-requires : tie.Need-same-name-requires
 same-name-requires c κs = search rules
@@ -25,7 +25,7 @@ returns-2 c =
     let a = c.before.before.before.before.before.args in
     c.same_name.ensures
     ∙ sym (ap (λ (t : Bool). t && same_field a.a.field a.b.field)
-    (sym c.before.before.before.before.same_writer.ensures ∙ not_false _ c.before.before.before.if1.false))
+    (sym c.before.before.before.before.same_writer.ensures ∙ not-false _ c.before.before.before.if1.false))
 
 pub alike-told-spec : {M : Type 1} → statement M
 alike-told-spec = tie.close (tie.spec same-writer-requires returns same-name-requires returns-2)

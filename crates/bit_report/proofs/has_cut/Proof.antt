@@ -2,7 +2,7 @@
 use borrow.Author.Rules.{rules}
 use mathlib.Core.Path.{sym, ap, ◌∙◌}
 use mathlib.Core.Bool.{Bool, ◌&&◌}
-use borrow.Author.Tests.{not_true, not_false}
+use borrow.Author.Tests.{not-true, not-false}
 use Rattle.field_register.specs.declared.FoundLine.{FoundLine}
 use Rattle.bit_report.specs.rules.Fields.{reaches_out, has_cut}
 use Rattle.bit_report.specs.rules.Parts.{field_at}
@@ -19,7 +19,7 @@ returns c =
     let field = c.before.before.field_at.ensures in
     sym (
     ap (λ (t : Bool). t && reaches_out (field_at a.names a.word a.bit).line a.from a.to)
-    (ap (λ (f : FoundLine). f.found) (sym field) ∙ not_true _ c.if1.true)
+    (ap (λ (f : FoundLine). f.found) (sym field) ∙ not-true _ c.if1.true)
     )
 
 reaches-out-requires : tie.Need-reaches-out-requires
@@ -34,7 +34,7 @@ returns-2 c =
     ∙ ap (λ (f : FoundLine). reaches_out f.line a.from a.to) field
     ∙ sym (
     ap (λ (t : Bool). t && reaches_out (field_at a.names a.word a.bit).line a.from a.to)
-    (ap (λ (f : FoundLine). f.found) (sym field) ∙ not_false _ c.before.before.if1.false)
+    (ap (λ (f : FoundLine). f.found) (sym field) ∙ not-false _ c.before.before.if1.false)
     )
 
 pub has-cut-spec : {M : Type 1} → statement M

@@ -2,7 +2,7 @@
 use borrow.Author.Rules.{rules}
 use mathlib.Core.Path.{sym, ap, ◌∙◌}
 use mathlib.Core.Bool.{Bool, not, ◌&&◌}
-use borrow.Author.Tests.{not_true, not_false}
+use borrow.Author.Tests.{not-true, not-false}
 use Rattle.field_register.specs.declared.FoundLine.{FoundLine}
 use Rattle.bit_report.specs.rules.Fields.{has_other}
 use Rattle.bit_report.specs.rules.Parts.{field_at, same_field}
@@ -19,7 +19,7 @@ returns c =
     let field = c.before.before.field_at.ensures in
     sym (
     ap (λ (t : Bool). t && not (same_field (field_at a.names a.word a.bit) a.field))
-    (ap (λ (f : FoundLine). f.found) (sym field) ∙ not_true _ c.if1.true)
+    (ap (λ (f : FoundLine). f.found) (sym field) ∙ not-true _ c.if1.true)
     )
 
 same-name-requires : tie.Need-same-name-requires
@@ -33,7 +33,7 @@ returns-2 c =
     ap not (c.same_name.ensures ∙ ap (λ (f : FoundLine). same_field f a.field) field)
     ∙ sym (
     ap (λ (t : Bool). t && not (same_field (field_at a.names a.word a.bit) a.field))
-    (ap (λ (f : FoundLine). f.found) (sym field) ∙ not_false _ c.before.if1.false)
+    (ap (λ (f : FoundLine). f.found) (sym field) ∙ not-false _ c.before.if1.false)
     )
 
 pub has-other-spec : {M : Type 1} → statement M

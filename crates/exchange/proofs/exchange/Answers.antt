@@ -2,7 +2,7 @@
 use borrow.Author.Rules.{rules}
 use mathlib.Core.Path.{◌≡◌, refl, ◌∙◌}
 use lib.ListN.{length}
-use borrow.Author.Tests.{not_true, not_false}
+use borrow.Author.Tests.{not-true, not-false}
 use Rattle.host_answers.specs.rules.Ends.{most_turns}
 use Rattle.exchange.specs.rules.Exchange.{Talk}
 use Rattle.exchange.proofs.Settling.{Reaches, goes, goes_less, ends, meets}
@@ -17,7 +17,7 @@ loop-live-smaller c =
     let met = meets a.bus a.dialect a.count a.windows a.memory.now a.image.now a.tries a.limit a.pings a.room.now
     c.meet-live.ensures in
     let r = c.loop-live.invariant.2 _ met in
-    goes_less a.image.now a.room.now r (not_true _ c.loop-live-test.true) c.go_on-live.ensures.value
+    goes_less a.image.now a.room.now r (not-true _ c.loop-live-test.true) c.go_on-live.ensures.value
 
 pub loop-live-preserved : goal.loop-live-preserved
 loop-live-preserved c =
@@ -26,7 +26,7 @@ loop-live-preserved c =
     let loop = c.loop-live in (
       search rules,
       search rules,
-      λ end r. goes a.image.now a.room.now (loop.invariant.2 end r) (not_true _ c.loop-live-test.true) on.ensures,
+      λ end r. goes a.image.now a.room.now (loop.invariant.2 end r) (not-true _ c.loop-live-test.true) on.ensures,
     )
 
 pub shape_of-memory : goal.shape_of-memory
@@ -41,5 +41,5 @@ returns c =
     let met = meets a.bus a.dialect a.count a.windows a.memory.now a.image.now a.tries a.limit a.pings a.room.now
     c.meet-live.ensures in
     let r = c.loop-live.invariant.2 _ met in
-    let end = ends a.image.now a.room.now r (not_false _ c.loop-live-test.false) in
+    let end = ends a.image.now a.room.now r (not-false _ c.loop-live-test.false) in
     record { value = c.outcome.ensures ∙ end.0; memory_after = end.1.0; room_after = end.1.1 }

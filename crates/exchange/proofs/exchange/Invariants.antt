@@ -2,7 +2,7 @@
 use borrow.Author.Rules.{rules}
 use mathlib.Core.Path.{◌≡◌, refl, ◌∙◌}
 use lib.ListN.{length}
-use borrow.Author.Tests.{not_true, not_false}
+use borrow.Author.Tests.{not-true, not-false}
 use Rattle.host_answers.specs.rules.Ends.{most_turns}
 use Rattle.exchange.specs.rules.Exchange.{Talk}
 use Rattle.exchange.proofs.Settling.{Reaches, goes, goes_less, ends, meets}

@@ -2,7 +2,7 @@
 use mathlib.Core.Bool.{true≢false}
 use mathlib.Core.Path.{sym, ◌∙◌}
 use borrow.Author.Rules.{rules}
-use borrow.Author.Tests.{not_true, not_false}
+use borrow.Author.Tests.{not-true, not-false}
 use native.Mathlib.Omega.{arith}
 use Rattle.field_lines.proofs.Values.{stands_inside, closed_by, value_there, value_keyless, value_open}
 use Rattle.field_lines.proofs.value_at.Statement.{statement}
@@ -13,20 +13,20 @@ stands-requires c κs = search rules
 
 returns : tie.Need-returns
 returns c =
-    value_keyless _ _ _ _ (λ e. true≢false (sym e ∙ sym c.before.stands.ensures ∙ not_true _ c.if1.true))
+    value_keyless _ _ _ _ (λ e. true≢false (sym e ∙ sym c.before.stands.ensures ∙ not-true _ c.if1.true))
 
 add-from : tie.Need-overflow-add-from
 add-from c =
-    record { fits = omega (arith, stands_inside _ _ _ (sym c.before.stands.ensures ∙ not_false _ c.if1.false)) }
+    record { fits = omega (arith, stands_inside _ _ _ (sym c.before.stands.ensures ∙ not-false _ c.if1.false)) }
 
 find-requires : tie.Need-find-requires
 find-requires c κs =
-    let inside = stands_inside _ _ _ (sym c.before.stands.ensures ∙ not_false _ c.if1.false) in (omega arith, omega arith)
+    let inside = stands_inside _ _ _ (sym c.before.stands.ensures ∙ not-false _ c.if1.false) in (omega arith, omega arith)
 
 returns-2 : tie.Need-returns-2
 returns-2 c =
     let there = c.before.before in
-    value_there _ _ _ _ _ (sym there.before.stands.ensures ∙ not_false _ there.if1.false)
+    value_there _ _ _ _ _ (sym there.before.stands.ensures ∙ not-false _ there.if1.false)
     (closed_by _ _ _ c.before.find.ensures.0) c.if2.true
 
 returns-3 : tie.Need-returns-3

@@ -1,7 +1,7 @@
 -- `field_register::command_of` meets its contract: each way is one side of a choice.
 use borrow.Author.Rules.{rules}
 use mathlib.Core.Path.{sym, ◌∙◌}
-use borrow.Author.Tests.{not_true, not_false}
+use borrow.Author.Tests.{not-true, not-false}
 use Rattle.field_register.proofs.Making.{made_none, made_wide, made_words}
 use Rattle.field_register.proofs.command_of.Statement.{statement}
 use Rattle.field_register.proofs.command_of.Tie as tie
@@ -12,7 +12,7 @@ not-made-requires c κs = search rules
 returns : tie.Need-returns
 returns c =
     let start = c.before.before.before in
-    c.not_made.ensures ∙ made_none start.args.found start.args.value (not_true _ c.before.if1.true)
+    c.not_made.ensures ∙ made_none start.args.found start.args.value (not-true _ c.before.if1.true)
 
 width-of-requires : tie.Need-width-of-requires
 width-of-requires c κs = search rules
@@ -29,7 +29,7 @@ returns-2 c =
     let after-if1 = at-width-of.before.before.before.before in
     let start = after-if1.before.before in
     c.not-made2.ensures
-    ∙ made_wide start.args.found start.args.value (not_false _ after-if1.if1.false)
+    ∙ made_wide start.args.found start.args.value (not-false _ after-if1.if1.false)
     ((rw (sym at-width-of.width_of_lem.ensures) (sym c.before.before.too_wide.ensures)) ∙ c.before.if2.true)
 
 words-for-requires : tie.Need-words-for-requires
@@ -41,7 +41,7 @@ returns-3 c =
     let after-if1 = at-width-of.before.before.before.before in
     let start = after-if1.before.before in
     rw c.words-for.ensures
-    (made_words start.args.found start.args.value (not_false _ after-if1.if1.false)
+    (made_words start.args.found start.args.value (not-false _ after-if1.if1.false)
     ((rw (sym at-width-of.width_of_lem.ensures) (sym c.before.before.too_wide.ensures)) ∙ c.before.if2.false))
 
 pub command-of-spec : {M : Type 1} → statement M

@@ -3,7 +3,7 @@ use borrow.Author.Rules.{rules}
 use mathlib.Core.List.{[]}
 use mathlib.Core.Path.{◌≡◌, refl, sym, ◌∙◌}
 use Prim.Native.Nat.{◌-◌, ◌≤◌}
-use borrow.Author.Tests.{not_true, not_false}
+use borrow.Author.Tests.{not-true, not-false}
 use lib.ListN.{length, take}
 use Rattle.field_register.specs.rules.Reading.{read_from}
 use Rattle.field_register.proofs.ReadingOn.{Room, read_all, read_beyond, read_malformed, read_clash, read_on, room_on}
@@ -54,7 +54,7 @@ returns-2 c =
     let start = turn.before.before.before in
     c.refused-at2.ensures
     ∙ read_malformed turn.loop.lines turn.loop.count turn.loop.invariant.1.0 turn.loop.invariant.0 start.args.text.now turn.loop.at
-    (search rules) (search rules) at-line-at.line_at_lem.result at-line-at.line_at_lem.ensures (not_true _ c.before.if2.true)
+    (search rules) (search rules) at-line-at.line_at_lem.result at-line-at.line_at_lem.ensures (not-true _ c.before.if2.true)
     ∙ turn.loop.invariant.1.1.1
 
 clashes-any-requires : tie.Need-clashes-any-requires invariant-loop decreases-loop
@@ -74,7 +74,7 @@ returns-3 c =
     let start = turn.before.before.before in
     c.refused-at3.ensures
     ∙ read_clash turn.loop.lines turn.loop.count turn.loop.invariant.1.0 turn.loop.invariant.0 start.args.text.now turn.loop.at
-    (search rules) (search rules) at-line-at.line_at_lem.result at-line-at.line_at_lem.ensures (not_false _ after-if2.if2.false)
+    (search rules) (search rules) at-line-at.line_at_lem.result at-line-at.line_at_lem.ensures (not-false _ after-if2.if2.false)
     (sym c.before.before.clashes-any.ensures ∙ c.before.if3.true)
     ∙ turn.loop.invariant.1.1.1
 
@@ -103,7 +103,7 @@ loop-again c =
           room_on turn.loop.lines turn.loop.count turn.loop.invariant.1.0 turn.loop.invariant.0 start.args.text.now turn.loop.at
               (search rules) (search rules) at-line-at.line_at_lem.result at-line-at.line_at_lem.ensures turn.loop.invariant.1.1.0,
           read_on turn.loop.lines turn.loop.count turn.loop.invariant.1.0 turn.loop.invariant.0 start.args.text.now turn.loop.at
-              (search rules) (search rules) at-line-at.line_at_lem.result at-line-at.line_at_lem.ensures (not_false _ after-if2.if2.false)
+              (search rules) (search rules) at-line-at.line_at_lem.result at-line-at.line_at_lem.ensures (not-false _ after-if2.if2.false)
               (sym c.before.clashes-any.ensures ∙ c.if3.false)
               ∙ turn.loop.invariant.1.1.1,
         ),

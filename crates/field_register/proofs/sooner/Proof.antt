@@ -2,7 +2,7 @@
 use borrow.Author.Rules.{rules}
 use mathlib.Core.Bool.{true≢false}
 use mathlib.Core.Path.{sym, ◌∙◌}
-use borrow.Author.Tests.{not_true, not_false}
+use borrow.Author.Tests.{not-true, not-false}
 use native.Mathlib.Omega.{arith}
 use Rattle.field_register.proofs.FirstReleases.{stays, begins}
 use Rattle.field_register.proofs.sooner.Statement.{statement}
@@ -15,7 +15,7 @@ returns : tie.Need-returns
 returns c =
     let start = c.before.before in
     stays start.args.subject start.args.release start.args.best start.args.line
-    (λ about later first. true≢false (sym about ∙ sym c.before.is-about.ensures ∙ not_true _ c.if1.true))
+    (λ about later first. true≢false (sym about ∙ sym c.before.is-about.ensures ∙ not-true _ c.if1.true))
 
 returns-2 : tie.Need-returns-2
 returns-2 c =
@@ -28,7 +28,7 @@ returns-3 c =
     let at-is-about = after-if1.before in
     let start = at-is-about.before in
     begins start.args.subject start.args.release start.args.best start.args.line
-    (sym at-is-about.is-about.ensures ∙ not_false _ after-if1.if1.false) (search rules) (λ some. absurd (some c.if3.true))
+    (sym at-is-about.is-about.ensures ∙ not-false _ after-if1.if1.false) (search rules) (λ some. absurd (some c.if3.true))
 
 returns-4 : tie.Need-returns-4
 returns-4 c =
@@ -36,7 +36,7 @@ returns-4 c =
     let at-is-about = after-if1.before in
     let start = at-is-about.before in
     begins start.args.subject start.args.release start.args.best start.args.line
-    (sym at-is-about.is-about.ensures ∙ not_false _ after-if1.if1.false) (search rules) (λ some. c.if4.true)
+    (sym at-is-about.is-about.ensures ∙ not-false _ after-if1.if1.false) (search rules) (λ some. c.if4.true)
 
 returns-5 : tie.Need-returns-5
 returns-5 c =

@@ -5,7 +5,7 @@ use Rattle.flash_session.specs.rules.Sessions.{CallOutcome}
 use Rattle.reading.specs.rules.Reading.{data_words}
 use Rattle.reading.proofs.Reading.{are_there}
 use Rattle.words.specs.rules.Bytes.{bytes_at}
-use borrow.Author.Tests.{not_true, not_false}
+use borrow.Author.Tests.{not-true, not-false}
 use lib.ListN.{take, drop}
 use native.Mathlib.Omega.{arith}
 use native.Mathlib.Nat.{add-sub_cancel_left}
@@ -23,13 +23,13 @@ pub returns-then-not-has_data : goal.returns-then-not-has_data
 returns-then-not-has_data c =
     let a = c.args in
     let short = load_short a.session a.memory.now a.image.now a.next a.address a.size a.place
-    (sym c.has_data.ensures ∙ not_true _ c.if-not-has_data.true) in
+    (sym c.has_data.ensures ∙ c.if-not-has_data.true) in
     record { value = c.halt.ensures ∙ sym (ap (λ (o : CallOutcome). o.answer) short); memory_after = sym (ap (λ (o : CallOutcome). o.memory) short) }
 
 pub returns-then-is_spent : goal.returns-then-is_spent
 returns-then-is_spent c =
     let a = c.args in
-    let there = sym c.has_data.ensures ∙ not_false _ c.if-not-has_data.false in
+    let there = sym c.has_data.ensures ∙ c.if-not-has_data.false in
     let spent = load_spent a.session a.memory.now a.image.now a.next a.address a.size a.place there
     (sym c.is_spent.ensures ∙ c.if-is_spent.true) in
     record { value = c.halt-then-is_spent.ensures ∙ sym (ap (λ (o : CallOutcome). o.answer) spent); memory_after = sym (ap (λ (o : CallOutcome). o.memory) spent) }
@@ -38,14 +38,14 @@ pub slice_bounds-load-end : goal.slice_bounds-load-end
 slice_bounds-load-end c =
     let a = c.args in
     let fits = are_there a.image.now a.next (data_words a.size)
-    (sym c.has_data.ensures ∙ not_false _ c.if-not-has_data.false) in
+    (sym c.has_data.ensures ∙ c.if-not-has_data.false) in
     search (rules, fits)
 
 pub load_answer-requires : goal.load_answer-requires
 load_answer-requires c =
     let a = c.args in
     let there = sym c.has_data.ensures
-    ∙ not_false _ c.if-not-has_data.false in
+    ∙ c.if-not-has_data.false in
     omega (
       arith,
       are_there a.image.now a.next (data_words a.size) there,
@@ -56,7 +56,7 @@ pub returns : goal.returns
 returns c =
     let a = c.args in
     let there = sym c.has_data.ensures
-    ∙ not_false _ c.if-not-has_data.false in
+    ∙ c.if-not-has_data.false in
     let whole = load_whole a.session a.memory.now a.image.now a.next a.address a.size a.place there
     (sym c.is_spent.ensures ∙ c.if-is_spent.false) in
     let done = rw (part a.image.now a.next a.size) at c.load-checksum.ensures in record { value = rw (c.load_answer.ensures, done.value) (sym (ap (λ (o : CallOutcome). o.answer) whole)); memory_after = done.memory_after ∙ sym (ap (λ (o : CallOutcome). o.memory) whole) }

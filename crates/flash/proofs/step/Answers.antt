@@ -6,7 +6,7 @@ use Rattle.flash_session.specs.declared.Called.{Called}
 use Rattle.flash.specs.rules.Step.{followed}
 use Rattle.flash_session.specs.rules.Sessions.{CallOutcome}
 use Rattle.reading.proofs.Reading.{whole_there}
-use borrow.Author.Tests.{not_true, not_false}
+use borrow.Author.Tests.{not-true, not-false}
 use lib.ListN.{length}
 use native.Mathlib.Omega.{arith}
 use mathlib.Core.Path.{◌≡◌, refl, sym, ap, ◌∙◌}
@@ -37,7 +37,7 @@ pub returns-then-not-is_image : goal.returns-then-not-is_image
 returns-then-not-is_image c =
     let a = c.args in
     let lent = c.if-memory-sum.false ∙ c.sum.ensures in
-    let unsound = sym c.is_image.ensures ∙ not_true _ c.if-not-is_image.true in
+    let unsound = sym c.is_image.ensures ∙ c.if-not-is_image.true in
     let case = call_image a.session a.memory.now a.image.now c.if-session.false lent unsound in
     record { value = told case c.keep-then-not-is_image.ensures; memory_after = left_in case refl }
 
@@ -47,7 +47,7 @@ overflow_add-next c =
     let there = whole_there a.image.now a.session.offset a.session.dialect
     (sym c.read_at-read.ensures ∙ c.in-Whole.is) in
     let small = image_small (length a.image.now) a.session.length
-    (sym c.is_image.ensures ∙ not_false _ c.if-not-is_image.false) in
+    (sym c.is_image.ensures ∙ c.if-not-is_image.false) in
     omega (arith, there, small)
 
 pub overflow_mul-next : goal.overflow_mul-next
@@ -56,7 +56,7 @@ overflow_mul-next c =
     let there = whole_there a.image.now a.session.offset a.session.dialect
     (sym c.read_at-read.ensures ∙ c.in-Whole.is) in
     let small = image_small (length a.image.now) a.session.length
-    (sym c.is_image.ensures ∙ not_false _ c.if-not-is_image.false) in
+    (sym c.is_image.ensures ∙ c.if-not-is_image.false) in
     omega (arith, there, small)
 
 pub overflow_add-next-in-Whole : goal.overflow_add-next-in-Whole
@@ -65,7 +65,7 @@ overflow_add-next-in-Whole c =
     let there = whole_there a.image.now a.session.offset a.session.dialect
     (sym c.read_at-read.ensures ∙ c.in-Whole.is) in
     let small = image_small (length a.image.now) a.session.length
-    (sym c.is_image.ensures ∙ not_false _ c.if-not-is_image.false) in
+    (sym c.is_image.ensures ∙ c.if-not-is_image.false) in
     omega (arith, there, small)
 
 pub overflow_add-words : goal.overflow_add-words
@@ -74,7 +74,7 @@ overflow_add-words c =
     let there = whole_there a.image.now a.session.offset a.session.dialect
     (sym c.read_at-read.ensures ∙ c.in-Whole.is) in
     let small = image_small (length a.image.now) a.session.length
-    (sym c.is_image.ensures ∙ not_false _ c.if-not-is_image.false) in
+    (sym c.is_image.ensures ∙ c.if-not-is_image.false) in
     omega (arith, there, small)
 
 pub perform-requires : goal.perform-requires
@@ -84,14 +84,14 @@ perform-requires c =
     (sym c.read_at-read.ensures ∙ c.in-Whole.is) in
     let small = image_small (length a.image.now) a.session.length
     (sym c.is_image.ensures
-    ∙ not_false _ c.if-not-is_image.false) in
+    ∙ c.if-not-is_image.false) in
     omega (arith, small)
 
 pub returns-in-Refused : goal.returns-in-Refused
 returns-in-Refused c =
     let a = c.args in
     let lent = c.if-memory-sum.false ∙ c.sum.ensures in
-    let sound = sym c.is_image.ensures ∙ not_false _ c.if-not-is_image.false in
+    let sound = sym c.is_image.ensures ∙ c.if-not-is_image.false in
     let running = c.if-session.false in
     let read = sym c.read_at-read.ensures ∙ c.in-Refused.is in
     let case = call_read a.session a.memory.now a.image.now running lent sound
@@ -102,7 +102,7 @@ pub returns-in-Whole : goal.returns-in-Whole
 returns-in-Whole c =
     let a = c.args in
     let lent = c.if-memory-sum.false ∙ c.sum.ensures in
-    let sound = sym c.is_image.ensures ∙ not_false _ c.if-not-is_image.false in
+    let sound = sym c.is_image.ensures ∙ c.if-not-is_image.false in
     let running = c.if-session.false in
     let read = sym c.read_at-read.ensures
     ∙ c.in-Whole.is in

@@ -3,7 +3,7 @@ use Prim.Native.Nat.{◌+◌, ◌/◌, ◌^◌}
 use mathlib.Core.Path.{◌≡◌, refl, sym, ◌∙◌}
 use native.Mathlib.Nat.{mul-le-mul}
 use native.Mathlib.Omega.{arith}
-use borrow.Author.Tests.{not_true, not_false}
+use borrow.Author.Tests.{not-true, not-false}
 use lib.ListN.{length, take}
 use borrow.Author.Rules.{rules}
 use Rattle.event_room.specs.rules.Room.{place_after, room_after}
@@ -36,14 +36,14 @@ unfolding run_of run_stamps run_events
 returns-then-not-goes_on c =
     let call = c.call-called.ensures in
     let loop = c.loop-left in
-    let over = sym c.goes_on.ensures ∙ not_true _ c.if-not-goes_on.true in
+    let over = sym c.goes_on.ensures ∙ c.if-not-goes_on.true in
     leads_last _ _ loop.live loop.memory call.value call.memory_after loop.left _ call.1.1 c.tell-place.ensures loop.invariant.4 (stops over)
 
 pub loop-left-preserved : goal.loop-left-preserved
 loop-left-preserved c =
     let call = c.call-called.ensures in
     let loop = c.loop-left in
-    let more = sym c.goes_on.ensures ∙ not_false _ c.if-not-goes_on.false in (
+    let more = sym c.goes_on.ensures ∙ c.if-not-goes_on.false in (
       search rules,
       search rules,
       search rules,

@@ -3,7 +3,7 @@ use Prim.Native.Nat.{◌+◌, ◌/◌, ◌^◌}
 use mathlib.Core.Path.{◌≡◌, refl, sym, ◌∙◌}
 use native.Mathlib.Nat.{mul-le-mul}
 use native.Mathlib.Omega.{arith}
-use borrow.Author.Tests.{not_true, not_false}
+use borrow.Author.Tests.{not-true, not-false}
 use lib.ListN.{length, take}
 use borrow.Author.Rules.{rules}
 use Rattle.event_room.specs.rules.Room.{place_after, room_after}

@@ -1,6 +1,6 @@
 -- `hex_text::read` meets its contract: its tests are those of the definition in their order, and the words are read only where all are passed.
 use Rattle.std.proofs.Common.{sym, refl, ◌∙◌, arith, rules}
-use borrow.Author.Tests.{not_true, not_false}
+use borrow.Author.Tests.{not-true, not-false}
 use Rattle.hex_text.proofs.Refusing.{left_refused, left_done, read_length, read_strange, read_narrow, read_done}
 use Rattle.hex_text.proofs.Turning.{image_length}
 use Rattle.hex_text.proofs.read.Goals as goal
@@ -9,7 +9,7 @@ pub returns-then-text-ne0 : goal.returns-then-text-ne0
 returns-then-text-ne0 c = left_refused _ _ (read_length _ _ c.if-text-ne0.true) refl
 
 pub returns-then-not-is_text : goal.returns-then-not-is_text
-returns-then-not-is_text c = left_refused _ _ (read_strange _ _ c.if-text-ne0.false (sym c.is_text.ensures ∙ not_true _ c.if-not-is_text.true)) refl
+returns-then-not-is_text c = left_refused _ _ (read_strange _ _ c.if-text-ne0.false (sym c.is_text.ensures ∙ c.if-not-is_text.true)) refl
 
 pub returns-then-room-text : goal.returns-then-room-text
 returns-then-room-text c =
@@ -17,12 +17,12 @@ returns-then-room-text c =
     let whole = image_length a.text.now in
     left_refused _ _
     (read_narrow a.text.now a.room.now c.if-text-ne0.false
-    (sym c.is_text.ensures ∙ not_false _ c.if-not-is_text.false) (omega arith)) refl
+    (sym c.is_text.ensures ∙ c.if-not-is_text.false) (omega arith)) refl
 
 pub read_words-requires : goal.read_words-requires
 read_words-requires c =
     let whole = image_length c.args.text.now in
-    (sym c.is_text.ensures ∙ not_false _ c.if-not-is_text.false, omega arith)
+    (sym c.is_text.ensures ∙ c.if-not-is_text.false, omega arith)
 
 pub returns : goal.returns
 returns c =
@@ -31,5 +31,5 @@ returns c =
     let done =
     left_done _ _
     (read_done a.text.now a.room.now c.if-text-ne0.false
-    (sym c.is_text.ensures ∙ not_false _ c.if-not-is_text.false) (omega arith)) in
+    (sym c.is_text.ensures ∙ c.if-not-is_text.false) (omega arith)) in
     record { value = done.0; room_after = c.read_words.ensures ∙ done.1 }

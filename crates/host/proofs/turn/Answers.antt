@@ -2,7 +2,7 @@
 use borrow.Author.Rules.{rules}
 use mathlib.Core.Path.{sym, ◌∙◌}
 use lib.ListN.{length}
-use borrow.Author.Tests.{not_false}
+use borrow.Author.Tests.{not-false}
 use Rattle.words.proofs.Choice.{chosen, passed}
 use Rattle.flash_session.proofs.Lengths.{image_small}
 use Rattle.host.specs.rules.Turn.{turned}
@@ -22,7 +22,7 @@ returns-then-not-is_image c =
 pub take_turn-requires : goal.take_turn-requires
 take_turn-requires c =
     let a = c.args in
-    image_small (length a.image.now) a.host.length (sym c.is_image.ensures ∙ not_false _ c.if-not-is_image.false)
+    image_small (length a.image.now) a.host.length (sym c.is_image.ensures ∙ c.if-not-is_image.false)
 
 pub returns : goal.returns
 unfolding turned

@@ -3,7 +3,7 @@ use mathlib.Core.Path.{◌≡◌, sym, ◌∙◌}
 use mathlib.Core.Bool.{true≢false}
 use Prim.Native.Nat.{◌-◌}
 use borrow.Author.Rules.{rules}
-use borrow.Author.Tests.{not_true, not_false}
+use borrow.Author.Tests.{not-true, not-false}
 use native.Mathlib.Omega.{arith}
 use lib.ListN.{drop}
 use Rattle.windows.specs.rules.Window.{carries_on}
@@ -25,14 +25,14 @@ returns-then-window-reached c =
 pub returns-then-not-has : goal.returns-then-not-has
 returns-then-not-has c =
     carries_fails c.args.windows c.loop-reached.i (search rules) _ _ _ (search rules)
-    (λ touches right_held. true≢false (sym right_held ∙ sym c.has.ensures ∙ not_true _ c.if-not-has.true))
+    (λ touches right_held. true≢false (sym right_held ∙ sym c.has.ensures ∙ c.if-not-has.true))
     ∙ c.loop-reached.invariant
 
 pub loop-reached-preserved : goal.loop-reached-preserved
 loop-reached-preserved c =
     rw c.end_of-reached.ensures
     (carries_next c.args.windows c.loop-reached.i (search rules) _ _ _ (search rules) (search rules)
-    (sym c.has.ensures ∙ not_false _ c.if-not-has.false)
+    (sym c.has.ensures ∙ c.if-not-has.false)
     ∙ c.loop-reached.invariant)
 
 pub returns : goal.returns

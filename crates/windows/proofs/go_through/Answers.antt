@@ -1,7 +1,6 @@
 -- `windows::go_through` meets its contract: the search of the windows that are left, from the bytes passed on, finds what the whole
 -- search finds.
 use mathlib.Core.Path.{◌≡◌, sym, ◌∙◌}
-use mathlib.Core.Logic.{⊎_elim}
 use Prim.Native.Nat.{◌-◌, ◌*◌, ◌^◌, ◌≤◌}
 use borrow.Author.Rules.{rules}
 use native.Mathlib.Omega.{arith}
@@ -10,6 +9,7 @@ use Rattle.windows.specs.rules.Window.{place_from, place_of}
 use Rattle.windows.proofs.Left.{place_none, place_not_held, place_within, place_carried, place_broken}
 use Rattle.windows.proofs.Parts.{held}
 use Rattle.windows.proofs.go_through.Goals as goal
+use Rattle.windows.proofs.go_through.Goals.{then-holds+else-end-reached+else-carries_on, else-holds}
 
 pub loop-i-init : goal.loop-i-init
 unfolding place_of
@@ -39,14 +39,12 @@ loop-i-preserved c =
     let given = c.args in (
       search rules,
       search rules,
-      ⊎_elim
-          (λ w.
-          place_broken given.windows c.loop-i.i (search rules) given.right given.address given.size c.loop-i.base _ w.2.ensures
-          (sym w.4.ensures ∙ w.5.left))
-          (λ w.
-          place_not_held given.windows c.loop-i.i (search rules) given.right given.address given.size c.loop-i.base
-          (sym c.holds.ensures ∙ w.left))
-          c.if-holds.branch
+      elim c.if-holds.branch [
+        | then-holds+else-end-reached+else-carries_on w ↦ place_broken given.windows c.loop-i.i (search rules) given.right given.address given.size c.loop-i.base _ w.end_of-reached.ensures
+            (sym w.carries_on.ensures ∙ w.if-carries_on.false)
+        | else-holds w ↦ place_not_held given.windows c.loop-i.i (search rules) given.right given.address given.size c.loop-i.base
+            (sym c.holds.ensures ∙ w.if-holds.false)
+      ]
           ∙ c.loop-i.invariant.2,
     )
 

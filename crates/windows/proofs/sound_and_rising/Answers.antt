@@ -4,7 +4,7 @@ use mathlib.Core.Path.{◌≡◌, sym, ◌∙◌}
 use mathlib.Core.Bool.{true≢false}
 use Prim.Native.Nat.{◌-◌, ◌≤◌}
 use borrow.Author.Rules.{rules}
-use borrow.Author.Tests.{not_true, not_false}
+use borrow.Author.Tests.{not-true, not-false}
 use native.Mathlib.Omega.{arith}
 use lib.ListN.{take, drop, length-take}
 use Rattle.windows.specs.rules.Map.{sound_and_rising}
@@ -20,14 +20,14 @@ returns-then-first-end c =
 pub returns-then-not-is_sound : goal.returns-then-not-is_sound
 returns-then-not-is_sound c =
     rising_fails c.args.count c.args.windows (search rules) c.loop-i.i (search rules) c.loop-i.end
-    (λ sound after. true≢false (sym sound ∙ sym c.is_sound.ensures ∙ not_true _ c.if-not-is_sound.true))
+    (λ sound after. true≢false (sym sound ∙ sym c.is_sound.ensures ∙ c.if-not-is_sound.true))
     ∙ c.loop-i.invariant.1
 
 pub loop-i-preserved : goal.loop-i-preserved
 loop-i-preserved c = (
   search rules,
   rising_on c.args.count c.args.windows (search rules) c.loop-i.i (search rules) c.loop-i.end
-      (sym c.is_sound.ensures ∙ not_false _ c.if-not-is_sound.false) (search rules)
+      (sym c.is_sound.ensures ∙ c.if-not-is_sound.false) (search rules)
       ∙ c.loop-i.invariant.1,
 )
 

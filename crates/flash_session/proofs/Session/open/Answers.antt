@@ -3,7 +3,7 @@ use borrow.Author.Rules.{rules}
 use mathlib.Core.Bool.{not}
 use mathlib.Core.Path.{sym, ap, ◌∙◌}
 use native.Mathlib.Omega.{arith}
-use borrow.Author.Tests.{eq-eqb, ne_eqb, not_false}
+use borrow.Author.Tests.{eq-eqb, ne_eqb, not-false}
 use Rattle.words.proofs.Choice.{chosen, passed}
 use Rattle.flash_session.specs.rules.Opening.{opened_by}
 use lib.ListN.{length}
@@ -34,7 +34,7 @@ overflow_cast-image c =
     omega (
       arith,
       length_small (length c.args.image.now)
-          (sym c.is_length.ensures ∙ not_false _ c.if-not-is_length.false),
+          (sym c.is_length.ensures ∙ c.if-not-is_length.false),
     )
 
 pub returns : goal.returns

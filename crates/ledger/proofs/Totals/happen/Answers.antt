@@ -11,16 +11,16 @@ does : (dialect : Dialect) (t : Totals) {p q : Happening} {r : Totals} → p ≡
 does dialect t e done = done ∙ sym (ap (in_flash dialect t) e)
 
 pub returns-in-Section : goal.returns-in-Section
-returns-in-Section c = does _ _ c.in-Section.is (c.number.ensures ∙ ap numbered c.count.ensures)
+returns-in-Section c = does c.args.dialect c.args.self c.in-Section.is (c.number.ensures ∙ ap numbered c.count.ensures)
 
 pub returns-in-Setting : goal.returns-in-Setting
-returns-in-Setting c = does _ _ c.in-Setting.is c.number-in-Setting.ensures
+returns-in-Setting c = does c.args.dialect c.args.self c.in-Setting.is c.number-in-Setting.ensures
 
 pub returns-in-Enable : goal.returns-in-Enable
-returns-in-Enable c = does _ _ c.in-Enable.is c.mark.ensures
+returns-in-Enable c = does c.args.dialect c.args.self c.in-Enable.is c.mark.ensures
 
 pub returns-in-Passed : goal.returns-in-Passed
-returns-in-Passed c = does _ _ c.in-Passed.is c.mark-in-Passed.ensures
+returns-in-Passed c = does c.args.dialect c.args.self c.in-Passed.is c.mark-in-Passed.ensures
 
 pub returns-in-Retried : goal.returns-in-Retried
-returns-in-Retried c = does _ _ c.in-Retried.is c.put_back.ensures
+returns-in-Retried c = does c.args.dialect c.args.self c.in-Retried.is c.put_back.ensures
