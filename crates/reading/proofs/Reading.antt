@@ -99,15 +99,15 @@ module _ (image : List ℕ) where
       whole_there e = subst Ends e (ends reads)
 
 -- a command that is no load has no data
-pub no_load : (k : Command) (image : List ℕ) (offset : ℕ) → OneOf (1 ∷ 2 ∷ 3 ∷ 4 ∷ 5 ∷ 6 ∷ 7 ∷ 8 ∷ 9 ∷ []) (tag_of command.the_type k)
+pub no_load : (k : Command) (image : List ℕ) (offset : ℕ) → (k ≡ Load → ⊥)
     → 0 ≡ data_size k image offset
-no_load Load image offset keys = absurd (miss (1 ∷ 2 ∷ 3 ∷ 4 ∷ 5 ∷ 6 ∷ 7 ∷ 8 ∷ 9 ∷ []) 0 tt keys)
-no_load Fill image offset keys = refl
-no_load BootTable image offset keys = refl
-no_load Enable image offset keys = refl
-no_load Disable image offset keys = refl
-no_load Request image offset keys = refl
-no_load StartOver image offset keys = refl
-no_load JumpAndClose image offset keys = refl
-no_load Ping image offset keys = refl
-no_load SequentialRead image offset keys = refl
+no_load Load image offset other = absurd (other refl)
+no_load Fill image offset other = refl
+no_load BootTable image offset other = refl
+no_load Enable image offset other = refl
+no_load Disable image offset other = refl
+no_load Request image offset other = refl
+no_load StartOver image offset other = refl
+no_load JumpAndClose image offset other = refl
+no_load Ping image offset other = refl
+no_load SequentialRead image offset other = refl

@@ -1,9 +1,10 @@
 -- `commands::judge_shape` meets its contract: each arm is one case of the definition, and the test of the data is its own.
-use Rattle.std.proofs.Common.{sym, ap, ◌∙◌, ⊎_elim, rules}
+use Rattle.std.proofs.Common.{sym, ap, ◌∙◌, rules}
 use Rattle.commands.specs.rules.Commands.{shape_judged}
 use Rattle.commands.specs.declared.Shape.{Shape}
 use Rattle.commands.proofs.Judging.{shape_too_wide, shape_fits, shape_whole}
 use Rattle.commands.proofs.judge_shape.Goals as goal
+use Rattle.commands.proofs.judge_shape.Goals.{else-field-via-then-field+else-too_wide, else-field-via-else-field}
 
 pub returns-then-too_wide : goal.returns-then-too_wide
 returns-then-too_wide c =
@@ -23,7 +24,7 @@ returns-else-field c =
     let known = c.in-Bits.is in
     rw c.unit_bytes.ensures at c.judge_units.ensures
     ∙ sym
-    (⊎_elim
-    (λ w. shape_fits a.windows a.address a.value known (sym w.1.ensures ∙ w.2.left))
-    (λ w. shape_whole a.windows a.address a.value known w.left)
-    c.else-field.branch)
+    (elim c.else-field.branch [
+      | else-field-via-then-field+else-too_wide w ↦ shape_fits a.windows a.address a.value known (sym w.too_wide.ensures ∙ w.if-too_wide.false)
+      | else-field-via-else-field w ↦ shape_whole a.windows a.address a.value known w.if-field.false
+    ])

@@ -27,17 +27,15 @@ pub returns-then-left-eq0 : goal.returns-then-left-eq0
 unfolding run_of run_stamps run_events
 returns-then-left-eq0 c =
     let call = c.call-called.ensures in
-    let loop = c.loop-left in
-    leads_last _ _ loop.live loop.memory call.value call.memory_after loop.left _ call.1.1 c.tell-place.ensures loop.invariant.4
-    (spent c.if-left-eq0.true)
+    let loop = c.loop-left in let parts = leads_last _ _ loop.live loop.memory call.value call.memory_after loop.left _ call.1.1 c.tell-place.ensures loop.invariant.4
+    (spent c.if-left-eq0.true) in record { called_value = parts.0; memory_after = parts.1; numbers_after = parts.2; offsets_after = parts.3; told_value = parts.4; room_after = parts.5 }
 
 pub returns-then-not-goes_on : goal.returns-then-not-goes_on
 unfolding run_of run_stamps run_events
 returns-then-not-goes_on c =
     let call = c.call-called.ensures in
     let loop = c.loop-left in
-    let over = sym c.goes_on.ensures ∙ c.if-not-goes_on.true in
-    leads_last _ _ loop.live loop.memory call.value call.memory_after loop.left _ call.1.1 c.tell-place.ensures loop.invariant.4 (stops over)
+    let over = sym c.goes_on.ensures ∙ c.if-not-goes_on.true in let parts = leads_last _ _ loop.live loop.memory call.value call.memory_after loop.left _ call.1.1 c.tell-place.ensures loop.invariant.4 (stops over) in record { called_value = parts.0; memory_after = parts.1; numbers_after = parts.2; offsets_after = parts.3; told_value = parts.4; room_after = parts.5 }
 
 pub loop-left-preserved : goal.loop-left-preserved
 loop-left-preserved c =

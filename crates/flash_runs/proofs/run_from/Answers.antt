@@ -30,8 +30,7 @@ returns c =
     let room = c.args.room.now in
     let refused = ne_eqb _ _ (λ e. c.if-code-eq0.false (c.code.ensures ∙ e)) in
     let none = sym (passed _ _ _ refused) in
-    let events = sym (passed _ _ _ refused) in
-    rw c.wrote_none-wrote.ensures ((
+    let events = sym (passed _ _ _ refused) in let parts = rw c.wrote_none-wrote.ensures ((
       ap (λ (o : CallOutcome). o.answer) none,
       (
         ap (λ (o : CallOutcome). o.memory) none,
@@ -43,4 +42,4 @@ returns c =
           ),
         ),
       ),
-    ))
+    )) in record { called_value = parts.0; memory_after = parts.1; numbers_after = parts.2; offsets_after = parts.3; told_value = parts.4; room_after = parts.5 }

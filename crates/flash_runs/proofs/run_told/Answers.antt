@@ -4,5 +4,4 @@ use Rattle.flash_runs.proofs.run_told.Goals as goal
 
 pub returns : goal.returns
 returns c =
-    let run = c.run_from.ensures in
-    (run.called_value, (run.memory_after, run.1.1.1.1))
+    let run = c.run_from.ensures in let parts = (run.called_value, (run.memory_after, run.1.1.1.1)) in record { called_value = parts.0; memory_after = parts.1; told_value = parts.2; room_after = parts.3 }

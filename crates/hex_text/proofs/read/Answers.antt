@@ -6,18 +6,17 @@ use Rattle.hex_text.proofs.Turning.{image_length}
 use Rattle.hex_text.proofs.read.Goals as goal
 
 pub returns-then-text-ne0 : goal.returns-then-text-ne0
-returns-then-text-ne0 c = left_refused _ _ (read_length _ _ c.if-text-ne0.true) refl
+returns-then-text-ne0 c = let parts = left_refused _ _ (read_length _ _ c.if-text-ne0.true) refl in record { value = parts.0; room_after = parts.1 }
 
 pub returns-then-not-is_text : goal.returns-then-not-is_text
-returns-then-not-is_text c = left_refused _ _ (read_strange _ _ c.if-text-ne0.false (sym c.is_text.ensures ∙ c.if-not-is_text.true)) refl
+returns-then-not-is_text c = let parts = left_refused _ _ (read_strange _ _ c.if-text-ne0.false (sym c.is_text.ensures ∙ c.if-not-is_text.true)) refl in record { value = parts.0; room_after = parts.1 }
 
 pub returns-then-room-text : goal.returns-then-room-text
 returns-then-room-text c =
     let a = c.args in
-    let whole = image_length a.text.now in
-    left_refused _ _
+    let whole = image_length a.text.now in let parts = left_refused _ _
     (read_narrow a.text.now a.room.now c.if-text-ne0.false
-    (sym c.is_text.ensures ∙ c.if-not-is_text.false) (omega arith)) refl
+    (sym c.is_text.ensures ∙ c.if-not-is_text.false) (omega arith)) refl in record { value = parts.0; room_after = parts.1 }
 
 pub read_words-requires : goal.read_words-requires
 read_words-requires c =

@@ -5,13 +5,12 @@ use Rattle.hex_text.proofs.Turning.{text_length}
 use Rattle.hex_text.proofs.write.Goals as goal
 
 pub returns-then-image-ne0 : goal.returns-then-image-ne0
-returns-then-image-ne0 c = left_refused _ _ (write_length _ _ c.if-image-ne0.true) refl
+returns-then-image-ne0 c = let parts = left_refused _ _ (write_length _ _ c.if-image-ne0.true) refl in record { value = parts.0; room_after = parts.1 }
 
 pub returns-then-room-image : goal.returns-then-room-image
 returns-then-room-image c =
     let a = c.args in
-    let whole = text_length a.image.now in
-    left_refused _ _ (write_narrow a.image.now a.room.now c.if-image-ne0.false (omega arith)) refl
+    let whole = text_length a.image.now in let parts = left_refused _ _ (write_narrow a.image.now a.room.now c.if-image-ne0.false (omega arith)) refl in record { value = parts.0; room_after = parts.1 }
 
 pub write_words-requires : goal.write_words-requires
 write_words-requires c =

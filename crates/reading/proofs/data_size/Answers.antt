@@ -14,4 +14,4 @@ returns-in-Load c =
 pub returns-in_default : goal.returns-in_default
 returns-in_default c =
     let a = c.args in
-    no_load a.command a.image.now a.offset c.in_default.keys2
+    no_load a.command a.image.now a.offset c.in_default.not-Load

@@ -14,7 +14,7 @@ use Rattle.stores.proofs.Loading.{loaded_there}
 use Rattle.stores.proofs.load.Goals as goal
 
 pub feed_copied-requires : goal.feed_copied-requires
-feed_copied-requires c =
+feed_copied-requires c inside =
     let a = c.args in
     rw c.copy.ensures (loaded_there a.memory.now a.place a.bytes.now (omega arith))
 

@@ -8,9 +8,9 @@ unfolding including
 returns c =
     rw (
       c.latest.ensures,
-      c.wrapping_add_u32-3.ensures,
+      c.wrapping_add_u32-3.ensures.value,
       c.unlike.ensures,
-      c.wrapping_add_u32-2.ensures,
+      c.wrapping_add_u32-2.ensures.value,
       c.entered_by.ensures,
-      c.wrapping_add_u32.ensures,
+      c.wrapping_add_u32.ensures.value,
     )

@@ -5,4 +5,4 @@ use Rattle.survey.proofs.Survey.line.Goals as goal
 
 pub returns : goal.returns
 unfolding line_of
-returns c = rw (c.unlike.ensures, c.set_of.ensures, c.wrapping_add_u32.ensures)
+returns c = rw (c.unlike.ensures, c.set_of.ensures, c.wrapping_add_u32.ensures.value)
