@@ -1,4 +1,5 @@
 -- `host::turn` meets its contract: 14 and 3 are tested in the definition's order, and what is left is the wait.
+use mathlib.Core.Bool.{not}
 use borrow.Author.Rules.{rules}
 use mathlib.Core.Path.{sym, ◌∙◌}
 use lib.ListN.{length}
@@ -17,7 +18,7 @@ unfolding turned
 returns-then-not-is_image c =
     c.keep-then-not-is_image.ensures
     ∙ sym (passed _ _ _ c.if-host.false
-    ∙ chosen _ _ _ (rw c.is_image.ensures at c.if-not-is_image.true))
+    ∙ chosen _ _ _ (ap not (rw c.is_image.ensures at c.if-not-is_image.true)))
 
 pub take_turn-requires : goal.take_turn-requires
 take_turn-requires c =
@@ -29,4 +30,4 @@ unfolding turned
 returns c =
     c.take_turn.ensures
     ∙ sym (passed _ _ _ c.if-host.false
-    ∙ passed _ _ _ (rw c.is_image.ensures at c.if-not-is_image.false))
+    ∙ passed _ _ _ (ap not (rw c.is_image.ensures at c.if-not-is_image.false)))

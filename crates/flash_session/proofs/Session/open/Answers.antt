@@ -12,21 +12,21 @@ use Rattle.flash_session.proofs.Session.open.Goals as goal
 
 pub returns-then-not-is_good : goal.returns-then-not-is_good
 unfolding opened_by
-returns-then-not-is_good c = c.shut.ensures ∙ sym (chosen _ _ _ (rw c.is_good.ensures at c.if-not-is_good.true))
+returns-then-not-is_good c = c.shut.ensures ∙ sym (chosen _ _ _ (ap not (rw c.is_good.ensures at c.if-not-is_good.true)))
 
 pub returns-then-not-is_length : goal.returns-then-not-is_length
 unfolding opened_by
 returns-then-not-is_length c =
     c.shut-then-not-is_length.ensures
-    ∙ sym (passed _ _ _ (rw c.is_good.ensures at c.if-not-is_good.false)
-    ∙ chosen _ _ _ (rw c.is_length.ensures at c.if-not-is_length.true))
+    ∙ sym (passed _ _ _ (ap not (rw c.is_good.ensures at c.if-not-is_good.false))
+    ∙ chosen _ _ _ (ap not (rw c.is_length.ensures at c.if-not-is_length.true)))
 
 pub returns-then-word_at-ne-MAGIC : goal.returns-then-word_at-ne-MAGIC
 unfolding opened_by
 returns-then-word_at-ne-MAGIC c =
     c.shut-then-word_at-ne-MAGIC.ensures
-    ∙ sym (passed _ _ _ (rw c.is_good.ensures at c.if-not-is_good.false)
-    ∙ passed _ _ _ (rw c.is_length.ensures at c.if-not-is_length.false)
+    ∙ sym (passed _ _ _ (ap not (rw c.is_good.ensures at c.if-not-is_good.false))
+    ∙ passed _ _ _ (ap not (rw c.is_length.ensures at c.if-not-is_length.false))
     ∙ chosen _ _ _ (ap not (ne_eqb _ _ (rw c.word_at.ensures at c.if-word_at-ne-MAGIC.true))))
 
 pub overflow_cast-image : goal.overflow_cast-image
@@ -41,7 +41,6 @@ pub returns : goal.returns
 unfolding opened_by
 returns c =
     rw (c.begin.ensures, c.kept.ensures)
-    (sym (passed _ _ _ (rw c.is_good.ensures at
-    c.if-not-is_good.false)
-    ∙ passed _ _ _ (rw c.is_length.ensures at c.if-not-is_length.false)
+    (sym (passed _ _ _ (ap not (rw c.is_good.ensures at c.if-not-is_good.false))
+    ∙ passed _ _ _ (ap not (rw c.is_length.ensures at c.if-not-is_length.false))
     ∙ passed _ _ _ (ap not (eq-eqb _ _ (sym c.word_at.ensures ∙ c.if-word_at-ne-MAGIC.false)))))

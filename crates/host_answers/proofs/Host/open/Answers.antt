@@ -12,22 +12,22 @@ use Rattle.host_answers.proofs.Host.open.Goals as goal
 
 pub returns-then-not-is_length : goal.returns-then-not-is_length
 unfolding opened_by
-returns-then-not-is_length c = c.shut.ensures ∙ sym (chosen _ _ _ (rw c.is_length.ensures at c.if-not-is_length.true))
+returns-then-not-is_length c = c.shut.ensures ∙ sym (chosen _ _ _ (ap not (rw c.is_length.ensures at c.if-not-is_length.true)))
 
 pub returns-then-word_at-ne-MAGIC : goal.returns-then-word_at-ne-MAGIC
 unfolding opened_by
 returns-then-word_at-ne-MAGIC c =
     c.shut-then-word_at-ne-MAGIC.ensures
-    ∙ sym (passed _ _ _ (rw c.is_length.ensures at c.if-not-is_length.false)
+    ∙ sym (passed _ _ _ (ap not (rw c.is_length.ensures at c.if-not-is_length.false))
     ∙ chosen _ _ _ (ap not (ne_eqb _ _ (rw c.word_at.ensures at c.if-word_at-ne-MAGIC.true))))
 
 pub returns-then-not-is_allowed : goal.returns-then-not-is_allowed
 unfolding opened_by
 returns-then-not-is_allowed c =
     c.shut-then-not-is_allowed.ensures
-    ∙ sym (passed _ _ _ (rw c.is_length.ensures at c.if-not-is_length.false)
+    ∙ sym (passed _ _ _ (ap not (rw c.is_length.ensures at c.if-not-is_length.false))
     ∙ passed _ _ _ (ap not (eq-eqb _ _ (sym c.word_at.ensures ∙ c.if-word_at-ne-MAGIC.false)))
-    ∙ chosen _ _ _ (rw c.is_allowed.ensures at c.if-not-is_allowed.true))
+    ∙ chosen _ _ _ (ap not (rw c.is_allowed.ensures at c.if-not-is_allowed.true)))
 
 pub overflow_cast-length : goal.overflow_cast-length
 overflow_cast-length c =
@@ -41,6 +41,6 @@ pub returns : goal.returns
 unfolding opened_by
 returns c =
     rw c.at_start.ensures
-    (sym (passed _ _ _ (rw c.is_length.ensures at c.if-not-is_length.false)
+    (sym (passed _ _ _ (ap not (rw c.is_length.ensures at c.if-not-is_length.false))
     ∙ passed _ _ _ (ap not (eq-eqb _ _ (sym c.word_at.ensures ∙ c.if-word_at-ne-MAGIC.false)))
-    ∙ passed _ _ _ (rw c.is_allowed.ensures at c.if-not-is_allowed.false)))
+    ∙ passed _ _ _ (ap not (rw c.is_allowed.ensures at c.if-not-is_allowed.false))))
