@@ -74,7 +74,7 @@ loop-i-preserved c =
       omega (arith, step.auto, loop.invariant.2),
       omega (arith, laid.auto, loop.invariant.3),
       omega (arith, step.auto, loop.invariant.4),
-      omega (arith, first.type-inv),
+      omega (arith, first.type_inv),
       omega (arith, laid.ensures.0, pays, loop.invariant.7, more, small),
       omega (arith, laid.ensures.0, pays, loop.invariant.7, more),
       fed_turn loop.room loop.count loop.first bus (take a.chosen a.places.now) loop.live loop.memory loop.numbers units loop.i

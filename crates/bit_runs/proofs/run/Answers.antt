@@ -15,7 +15,7 @@ returns-then-code-ne0 c =
 pub slice_bounds-run_from-end : goal.slice_bounds-run_from-end
 slice_bounds-run_from-end c =
     let picked = c.choose-choice in
-    sym picked.type-inv.1.1.1.0.1.1.1.0.1.0.1 ∙ length-map picked.result.chosen.places (λ (place : ℕ). place)
+    sym picked.type_inv.1.1.1.0.1.1.1.0.1.0.1 ∙ length-map picked.result.chosen.places (λ (place : ℕ). place)
 
 pub returns : goal.returns
 returns c =

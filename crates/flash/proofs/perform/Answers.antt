@@ -21,7 +21,7 @@ returns-in-Load c =
     let a = c.args in
     let known = c.in-Load.is in
     let done = rw (c.argument_at-in-Load.ensures, c.argument_at.ensures) at
-    c.load.ensures in record { value = done.0 ∙ known-answer a.next a.session a.memory.now a.image.now known; memory_after = done.1 ∙ known-memory a.next a.session a.memory.now a.image.now known }
+    c.load.ensures in record { value = done.value ∙ known-answer a.next a.session a.memory.now a.image.now known; memory_after = done.memory_after ∙ known-memory a.next a.session a.memory.now a.image.now known }
 
 pub returns-in-Fill : goal.returns-in-Fill
 returns-in-Fill c =
@@ -33,7 +33,7 @@ returns-in-Fill c =
       c.argument_at-in-Fill-2.ensures,
       c.argument_at-in-Fill.ensures,
     ) at
-    c.fill.ensures in record { value = done.0 ∙ known-answer a.next a.session a.memory.now a.image.now known; memory_after = done.1 ∙ known-memory a.next a.session a.memory.now a.image.now known }
+    c.fill.ensures in record { value = done.value ∙ known-answer a.next a.session a.memory.now a.image.now known; memory_after = done.memory_after ∙ known-memory a.next a.session a.memory.now a.image.now known }
 
 pub returns-in-BootTable : goal.returns-in-BootTable
 returns-in-BootTable c =
@@ -45,7 +45,7 @@ returns-in-BootTable c =
       c.argument_at-in-BootTable-2.ensures,
       c.argument_at-in-BootTable.ensures,
     ) at
-    c.boot_table.ensures in record { value = done.0 ∙ known-answer a.next a.session a.memory.now a.image.now known; memory_after = done.1 ∙ known-memory a.next a.session a.memory.now a.image.now known }
+    c.boot_table.ensures in record { value = done.value ∙ known-answer a.next a.session a.memory.now a.image.now known; memory_after = done.memory_after ∙ known-memory a.next a.session a.memory.now a.image.now known }
 
 pub returns-in-Enable : goal.returns-in-Enable
 returns-in-Enable c =

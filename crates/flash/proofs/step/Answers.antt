@@ -109,4 +109,4 @@ returns-in-Whole c =
     let case = call_read a.session a.memory.now a.image.now running lent sound
     ∙ ap (followed a.session a.memory.now a.image.now) read in
     let done = rw c.fetch-in-Whole.ensures at c.perform.ensures in
-    record { value = told case done.0; memory_after = left_in case done.1 }
+    record { value = told case done.value; memory_after = left_in case done.memory_after }

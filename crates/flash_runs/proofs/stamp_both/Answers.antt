@@ -14,8 +14,5 @@ pub returns-then-offsets-eq0 : goal.returns-then-offsets-eq0
 returns-then-offsets-eq0 c = record { numbers_after = c.stamp.ensures; offsets_after = sym (none_beside _ _ _ c.if-offsets-eq0.true) }
 
 pub returns : goal.returns
-returns c = let parts = (
-  c.stamp.ensures,
-  rw c.renumber.ensures at
-      c.stamp-2.ensures,
-) in record { numbers_after = parts.0; offsets_after = parts.1 }
+returns c = record { numbers_after = c.stamp.ensures; offsets_after = rw c.renumber.ensures at
+      c.stamp-2.ensures }

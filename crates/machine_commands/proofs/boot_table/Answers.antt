@@ -7,7 +7,7 @@ returns c =
     let judged = rw c.judge_setting.ensures at
     c.judge_number-judged.ensures in
     let done = rw judged at c.boot_table-done.ensures in record {
-      value = rw (c.wrote_setting.ensures, c.finish.ensures, done.0, c.number_setting.ensures, judged) at
+      value = rw (c.wrote_setting.ensures, c.finish.ensures, done.value, c.number_setting.ensures, judged) at
           c.tell_wrote.ensures;
-      memory_after = done.1;
+      memory_after = done.memory_after;
     }

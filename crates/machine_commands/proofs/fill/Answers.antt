@@ -7,7 +7,7 @@ returns c =
     let judged = rw c.judge_fill.ensures at
     c.judge_count-judged.ensures in
     let done = rw judged at c.fill-done.ensures in record {
-      value = rw (c.wrote_bytes.ensures, c.finish.ensures, done.0, c.count_on.ensures, judged) at
+      value = rw (c.wrote_bytes.ensures, c.finish.ensures, done.value, c.count_on.ensures, judged) at
           c.tell_wrote.ensures;
-      memory_after = done.1;
+      memory_after = done.memory_after;
     }

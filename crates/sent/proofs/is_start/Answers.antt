@@ -13,14 +13,14 @@ returns-then-unit-start_unit c =
 pub returns-then-not-line : goal.returns-then-not-line
 returns-then-not-line c =
     let a = c.args in
-    sym (start_first a.bus a.session a.unit (c.if-unit-start_unit.false ∙ c.start_unit.ensures) c.if-not-line.true)
+    sym (start_first a.bus a.session a.unit (c.if-unit-start_unit.false ∙ c.start_unit.ensures) (not-true _ c.if-not-line.true))
 
 pub returns-then-line-ne0 : goal.returns-then-line-ne0
 returns-then-line-ne0 c =
     let a = c.args in
-    sym (start_inside a.bus a.session a.unit (c.if-unit-start_unit.false ∙ c.start_unit.ensures) c.if-not-line.false c.if-line-ne0.true)
+    sym (start_inside a.bus a.session a.unit (c.if-unit-start_unit.false ∙ c.start_unit.ensures) (not-false _ c.if-not-line.false) c.if-line-ne0.true)
 
 pub returns : goal.returns
 returns c =
     let a = c.args in
-    sym (start_again a.bus a.session a.unit (c.if-unit-start_unit.false ∙ c.start_unit.ensures) c.if-not-line.false c.if-line-ne0.false)
+    sym (start_again a.bus a.session a.unit (c.if-unit-start_unit.false ∙ c.start_unit.ensures) (not-false _ c.if-not-line.false) c.if-line-ne0.false)

@@ -3,4 +3,4 @@ use borrow.Author.Rules.{rules}
 use Rattle.sent.proofs.take_unit.Goals as goal
 
 pub returns : goal.returns
-returns c = let parts = rw c.anew.ensures at (c.hear.ensures.value, c.hear.ensures.memory_after) in record { value = parts.0; memory_after = parts.1 }
+returns c = record { value = rw c.anew.ensures at c.hear.ensures.value; memory_after = rw c.anew.ensures at c.hear.ensures.memory_after }

@@ -4,7 +4,7 @@ use native.Mathlib.Omega.{arith}
 use Rattle.sent.proofs.unit_at.Goals as goal
 
 pub returns-in-Bytes : goal.returns-in-Bytes
-returns-in-Bytes c = rw c.in let parts = -Bytes.is ((c.byte_at.ensures, omega (arith, c.byte_at.type-inv))) in record { value = parts.0; upper_bound = parts.1 }
+returns-in-Bytes c = record { value = rw c.in-Bytes.is c.byte_at.ensures; upper_bound = rw c.in-Bytes.is (omega (arith, c.byte_at.type_inv)) }
 
 pub returns-in-Halves : goal.returns-in-Halves
-returns-in-Halves c = rw c.in let parts = -Halves.is ((c.half_at.ensures, omega (arith, c.half_at.type-inv))) in record { value = parts.0; upper_bound = parts.1 }
+returns-in-Halves c = record { value = rw c.in-Halves.is c.half_at.ensures; upper_bound = rw c.in-Halves.is (omega (arith, c.half_at.type_inv)) }

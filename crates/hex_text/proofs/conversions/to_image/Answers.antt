@@ -13,7 +13,7 @@ slice_bounds-read-end c =
 pub returns-then-code-ne0 : goal.returns-then-code-ne0
 returns-then-code-ne0 c =
     let told = rw c.text_end-end.ensures at c.read-refusal.ensures in
-    record { value = refused _ _ told.0 (λ none. c.if-code-ne0.true (c.code.ensures ∙ none)); part = is-part _ _ (omega arith); room_after = told.1 }
+    record { value = refused _ _ told.value (λ none. c.if-code-ne0.true (c.code.ensures ∙ none)); part = is-part _ _ (omega arith); room_after = told.room_after }
 
 pub returns : goal.returns
 returns c =
@@ -23,5 +23,5 @@ returns c =
     let told = rw end at c.read-refusal.ensures in
     let none = sym c.code.ensures ∙ c.if-code-ne0.false in
     let size = length-take-le (text_end file) file (end_within file) in
-    let fits = image_fits (text_of_file file) a.room.now (ap code_of (sym told.0) ∙ none) in
-    record { value = accepted _ _ told.0 _ none (omega arith); part = is-part _ _ (omega (arith, c.room-1.given)); room_after = told.1 }
+    let fits = image_fits (text_of_file file) a.room.now (ap code_of (sym told.value) ∙ none) in
+    record { value = accepted _ _ told.value _ none (omega arith); part = is-part _ _ (omega (arith, c.room-1.given)); room_after = told.room_after }

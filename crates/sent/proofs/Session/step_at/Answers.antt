@@ -6,4 +6,4 @@ pub take_unit-requires : goal.take_unit-requires
 take_unit-requires c = c.unit_at.ensures.upper_bound
 
 pub returns : goal.returns
-returns c = let parts = rw c.unit_at.ensures.value at (c.take_unit.ensures.value, c.take_unit.ensures.memory_after) in record { value = parts.0; memory_after = parts.1 }
+returns c = record { value = rw c.unit_at.ensures.value at c.take_unit.ensures.value; memory_after = rw c.unit_at.ensures.value at c.take_unit.ensures.memory_after }

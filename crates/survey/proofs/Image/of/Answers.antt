@@ -9,4 +9,4 @@ unfolding last_answer report_of memory_left image_of
 returns c =
     let run = rw c.open-opened.ensures at
     c.run_plain-called.ensures in
-    rw (c.word_at.ensures, c.ended.ensures, c.code.ensures, run.0, run.1)
+    rw (c.word_at.ensures, c.ended.ensures, c.code.ensures, run.value, run.memory_after)
