@@ -9,6 +9,7 @@ use Rattle.host_answers.specs.rules.Answers.{sending, enters, on_to}
 use Rattle.host.specs.rules.Turn.{met_to}
 use Rattle.host_answers.specs.declared.Host.{Host}
 use Rattle.host_commands.specs.declared.Role.{Role}
+use Rattle.host_commands.specs.declared.Role.TheVariants.{Passed}
 use Rattle.host_answers.specs.declared.Sending.TheVariants.{Nothing}
 use Rattle.host_answers.specs.declared.Turned.{Turned}
 use Rattle.host_answers.specs.declared.Wait.TheVariants as wait
@@ -22,5 +23,5 @@ module _ (h : Host) (image : List ℕ) (k : Command) (end : ℕ) (r : Role) (kno
       let opcode : Turned = enters (wait.Opcode k end) h image in
       as_role k r (sending Nothing (on_to h end)) opcode opcode opcode known
 
-  pub met_other : OneOf (1 ∷ 2 ∷ 3 ∷ []) (tag_of role.the_type r) → met_to h image k end ≡ enters (wait.Opcode k end) h image
-  met_other keys = met_by ∙ others r (sending Nothing (on_to h end)) (enters (wait.Opcode k end) h image) keys
+  pub met_other : (r ≡ Passed → ⊥) → met_to h image k end ≡ enters (wait.Opcode k end) h image
+  met_other not_passed = met_by ∙ others r (sending Nothing (on_to h end)) (enters (wait.Opcode k end) h image) not_passed

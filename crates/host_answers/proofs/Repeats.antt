@@ -10,13 +10,13 @@ use Rattle.host_answers.specs.declared.Wait.{Wait}
 use Rattle.host_answers.specs.declared.Wait.TheVariants.{Greeting, Start, Ping, Echo, Nothing, Opcode, Over, Closing}
 use Rattle.host_answers.specs.contracts.Wait as wait
 
-pub as_on_entering : (w : Wait) (h : Host) (image : List ℕ) → OneOf (0 ∷ 1 ∷ 2 ∷ 4 ∷ 5 ∷ 6 ∷ 7 ∷ []) (tag_of wait.the_type w)
+pub as_on_entering : (w : Wait) (h : Host) (image : List ℕ) → ((left : ℕ) → w ≡ Echo left → ⊥)
     → opens w h image ≡ repeats w h image
-as_on_entering Greeting h image keys = refl
-as_on_entering Start h image keys = refl
-as_on_entering Ping h image keys = refl
-as_on_entering (Echo k) h image keys = absurd (miss (0 ∷ 1 ∷ 2 ∷ 4 ∷ 5 ∷ 6 ∷ 7 ∷ []) 3 tt keys)
-as_on_entering Nothing h image keys = refl
-as_on_entering (Opcode command end) h image keys = refl
-as_on_entering (Over offset) h image keys = refl
-as_on_entering Closing h image keys = refl
+as_on_entering Greeting h image other = refl
+as_on_entering Start h image other = refl
+as_on_entering Ping h image other = refl
+as_on_entering (Echo k) h image other = absurd (other k refl)
+as_on_entering Nothing h image other = refl
+as_on_entering (Opcode command end) h image other = refl
+as_on_entering (Over offset) h image other = refl
+as_on_entering Closing h image other = refl

@@ -40,11 +40,11 @@ pub as_role : {A : Type 0} (k : Command) (r : Role) (passed asks closes goes : A
 as_role k r passed asks closes goes e = by_its_role k passed asks closes goes ∙ ap (λ (x : Role). choose x passed asks closes goes) (sym e)
 
 -- a role that is not the first
-pub others : {A : Type 0} (r : Role) (passed other : A) → OneOf (1 ∷ 2 ∷ 3 ∷ []) (tag_of role.the_type r) → choose r passed other other other ≡ other
-others Passed passed other keys = absurd (miss (1 ∷ 2 ∷ 3 ∷ []) 0 tt keys)
-others Asks passed other keys = refl
-others Closes passed other keys = refl
-others Goes passed other keys = refl
+pub others : {A : Type 0} (r : Role) (passed other : A) → (r ≡ Passed → ⊥) → choose r passed other other other ≡ other
+others Passed passed other not_passed = absurd (not_passed refl)
+others Asks passed other not_passed = refl
+others Closes passed other not_passed = refl
+others Goes passed other not_passed = refl
 
 -- how a command's acknowledgement is taken, by its role
 pub acknowledged_by : (h : Host) (image : List ℕ) (k : Command) (end : ℕ) (r : Role) → r ≡ role_of k → acknowledged_as h image k end

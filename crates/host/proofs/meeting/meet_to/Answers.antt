@@ -15,4 +15,4 @@ pub returns-in_default : goal.returns-in_default
 returns-in_default c =
     let a = c.args in
     c.enter.ensures
-    ∙ sym (met_other a.host a.image.now a.command a.end _ c.role_of-role.ensures c.in_default.keys2)
+    ∙ sym (met_other a.host a.image.now a.command a.end _ c.role_of-role.ensures c.in_default.not-Passed)

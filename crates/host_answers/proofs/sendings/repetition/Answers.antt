@@ -14,4 +14,4 @@ returns-in-Echo c =
 pub returns-in_default : goal.returns-in_default
 returns-in_default c =
     let a = c.args in
-    c.opening.ensures ∙ as_on_entering a.wait a.host a.image.now c.in_default.keys2
+    c.opening.ensures ∙ as_on_entering a.wait a.host a.image.now c.in_default.not-Echo
