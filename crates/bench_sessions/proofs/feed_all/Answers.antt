@@ -62,8 +62,8 @@ loop-i-preserved c =
     let laid = c.put_reply-count-in-loop-i in
     let first = c.first_of-first in
     let inside : loop.i < length units = omega (arith, test, loop.invariant.1) in
-    let answered = step.ensures.0 in
-    let remembered = step.ensures.1.0 in
+    let answered = step.ensures.value in
+    let remembered = step.ensures.memory_after in
     let pays : length (sent_bytes step.result.reply) + unit_room bus * step.result.session.line.have
     ≤ unit_room bus * loop.live.line.have + unit_room bus =
     rw answered (step_pays bus loop.live loop.memory (get_or units loop.i 0)) in
@@ -75,10 +75,10 @@ loop-i-preserved c =
       omega (arith, laid.auto, loop.invariant.3),
       omega (arith, step.auto, loop.invariant.4),
       omega (arith, first.type_inv),
-      omega (arith, laid.ensures.0, pays, loop.invariant.7, more, small),
-      omega (arith, laid.ensures.0, pays, loop.invariant.7, more),
+      omega (arith, laid.ensures.value, pays, loop.invariant.7, more, small),
+      omega (arith, laid.ensures.value, pays, loop.invariant.7, more),
       fed_turn loop.room loop.count loop.first bus (take a.chosen a.places.now) loop.live loop.memory loop.numbers units loop.i
-          inside answered remembered step.ensures.1.1 laid.ensures.1 laid.ensures.0 first.ensures ∙ loop.invariant.8,
+          inside answered remembered step.ensures.entries_after laid.ensures.room_after laid.ensures.value first.ensures ∙ loop.invariant.8,
     )
 
 pub shape_of-memory : goal.shape_of-memory
@@ -101,4 +101,4 @@ returns c =
     delivers bus (take a.chosen a.places.now) a.room.now (record { session = a.session; memory = a.memory.now }) a.opening a.numbers.now
     units c.requires.0.0 c.requires.0.1 c.requires.1.1 (record { session = loop.live; memory = loop.memory }) loop.room loop.count
     loop.first
-    loop.numbers loop.i end (loop.invariant.8 ∙ rw (laid.ensures.1, laid.ensures.0)) (omega arith)
+    loop.numbers loop.i end (loop.invariant.8 ∙ rw (laid.ensures.room_after, laid.ensures.value)) (omega arith)

@@ -24,7 +24,7 @@ loop-i-preserved c =
     let step = c.step_at-answer in
     let inside : loop.i < length units = omega (arith, test, loop.invariant.1) in
     let note = c.note-live in
-    let same = feeds a.bus loop.live loop.memory loop.room units loop.i inside step.ensures.0 step.ensures.1 note.ensures in (
+    let same = feeds a.bus loop.live loop.memory loop.room units loop.i inside step.ensures.value step.ensures.memory_after (note.ensures.value, note.ensures.room_after) in (
       omega (arith, test),
       loop.invariant.1,
       omega (arith, step.auto, loop.invariant.2),
