@@ -1,4 +1,4 @@
-// The run that the bits program tells of (02, request 6): an image in the check program's window, and beside the chosen words two rows of entries. In one
+// The run that the bits program tells of: an image in the check program's window, and beside the chosen words two rows of entries. In one
 // stands the number of the command that wrote each bit last, in the other that command's offset in the image.
 #![tactic(auto)]
 

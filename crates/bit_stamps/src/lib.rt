@@ -1,4 +1,4 @@
-// The numbers beside chosen words of memory (02, request 6): which command wrote each of their bits last.
+// The numbers beside chosen words of memory: which command wrote each of their bits last.
 #![tactic(auto)]
 
 ghost use Rattle.std.specs.Prelude.{◌≡◌, ℕ, ◌+◌, ◌-◌, ◌*◌, ◌%◌, ◌^◌, ◌≤◌, ◌<◌, min, take};

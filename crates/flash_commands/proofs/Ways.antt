@@ -27,7 +27,6 @@ use Rattle.ledger.specs.declared.Happening.{Happening}
 use Rattle.ledger.specs.declared.Happening.TheVariants as happened
 use Rattle.ledger.specs.declared.Totals.{Totals}
 use Rattle.reading.specs.rules.Reading.{words_from, argument}
-use Rattle.reading.proofs.Reading.{whole}
 use Rattle.commands.specs.rules.Commands.{judged_code}
 use Rattle.commands.specs.declared.Done.{Done}
 use Rattle.commands.specs.declared.Judged.{Judged}

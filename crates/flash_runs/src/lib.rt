@@ -1,4 +1,4 @@
-// A run of one unchanged image from its opening, and beside chosen words two rows of entries (02, request 6). In one stands the number of the command that
+// A run of one unchanged image from its opening, and beside chosen words two rows of entries. In one stands the number of the command that
 // wrote each bit last, in the other that command's offset in the image. Its events are written into lent room.
 #![tactic(auto)]
 

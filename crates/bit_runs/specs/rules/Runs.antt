@@ -1,4 +1,4 @@
--- The run that the bits program tells of (02, request 6): the check program's window, no retry, and beside the chosen words the numbers and the offsets of the
+-- The run that the bits program tells of: the check program's window, no retry, and beside the chosen words the numbers and the offsets of the
 -- commands that wrote their bits last.
 use Rattle.std.specs.Prelude.{ℕ, true, false, List, replicate}
 use Rattle.words.specs.rules.Choice.{pick}

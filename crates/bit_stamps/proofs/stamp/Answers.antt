@@ -1,6 +1,5 @@
 -- `bit_stamps::stamp` meets its contract: word by word, and where nothing was written all is kept.
 use mathlib.Core.Path.{sym}
-use borrow.Author.Rules.{rules}
 use Rattle.bit_stamps.proofs.Stamping.{none_written}
 use Rattle.bit_stamps.proofs.stamp.Goals as goal
 

@@ -1,9 +1,8 @@
 -- `bit_stamps::stamp_bits` meets its contract: after i turns the first i entries are written, two bytes each.
-use Prim.Native.Nat.{◌-◌, ◌*◌, ◌%◌, ◌≤◌}
 use mathlib.Core.Path.{◌≡◌}
 use borrow.Author.Rules.{rules}
 use native.Mathlib.Omega.{arith}
-use Rattle.words.specs.rules.Bytes.{byte, put}
+use Rattle.words.specs.rules.Bytes.{put}
 use Rattle.words.proofs.Puts.{length_put}
 use Rattle.bit_stamps.proofs.Stamping.{two_more}
 use Rattle.bit_stamps.proofs.stamp_bits.Goals as goal

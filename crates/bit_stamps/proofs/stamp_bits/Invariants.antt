@@ -1,11 +1,7 @@
 -- What each turn keeps.
 use Prim.Native.Nat.{◌-◌, ◌*◌, ◌%◌, ◌≤◌}
 use mathlib.Core.Path.{◌≡◌}
-use borrow.Author.Rules.{rules}
-use native.Mathlib.Omega.{arith}
 use Rattle.words.specs.rules.Bytes.{byte, put}
-use Rattle.words.proofs.Puts.{length_put}
-use Rattle.bit_stamps.proofs.Stamping.{two_more}
 use Rattle.bit_stamps.proofs.stamp_bits.Given as goal
 
 abbrev pub invariant-loop-i : goal.invariant-loop-i

@@ -1,5 +1,4 @@
 -- `bit_stamps::stamp_word` meets its contract: the word's bits below the first that was written, and those below the end, bound what is stamped.
-use borrow.Author.Rules.{rules}
 use Rattle.bit_stamps.specs.rules.Stamps.{word_stamped}
 use Rattle.bit_stamps.proofs.Stamping.{word_kept}
 use Rattle.bit_stamps.proofs.stamp_word.Goals as goal

@@ -1,5 +1,5 @@
 -- `bit_stamps::stamp_words` meets its contract: after i turns the entries are those that the first i places alone would give.
-use Prim.Native.Nat.{ℕ, ◌-◌, ◌≤◌}
+use Prim.Native.Nat.{ℕ}
 use mathlib.Core.Path.{◌≡◌, sym, ap, ◌∙◌}
 use borrow.Author.Rules.{rules}
 use native.Mathlib.Omega.{arith}

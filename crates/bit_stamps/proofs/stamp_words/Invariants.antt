@@ -1,11 +1,8 @@
 -- What each turn keeps.
-use Prim.Native.Nat.{ℕ, ◌-◌, ◌≤◌}
-use mathlib.Core.Path.{◌≡◌, sym, ap, ◌∙◌}
-use borrow.Author.Rules.{rules}
-use native.Mathlib.Omega.{arith}
-use lib.ListN.{length, take}
+use Prim.Native.Nat.{◌-◌, ◌≤◌}
+use mathlib.Core.Path.{◌≡◌}
+use lib.ListN.{take}
 use Rattle.bit_stamps.specs.rules.Stamps.{stamped}
-use Rattle.bit_stamps.proofs.Stamping.{length_stamped, none_chosen, one_word_more, all_words, past_entries}
 use Rattle.bit_stamps.proofs.stamp_words.Given as goal
 
 abbrev pub invariant-loop-i : goal.invariant-loop-i

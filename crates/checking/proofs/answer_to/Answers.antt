@@ -1,6 +1,5 @@
 -- `checking::answer_to` meets its contract: the memory lent to the run is of zeros.
 use Rattle.checking.specs.rules.Report.{last_answer}
-use borrow.Author.Rules.{rules}
 use Rattle.checking.proofs.answer_to.Goals as goal
 
 pub returns : goal.returns

@@ -1,5 +1,4 @@
 -- `checking::ceiling_of` meets its contract: an image is at most 65,536 bytes long, so that the product fits.
-use borrow.Author.Rules.{rules}
 use Prim.Native.Nat.{◌+◌, ◌/◌}
 use mathlib.Core.Path.{sym, ◌∙◌}
 use native.Mathlib.Nat.{mul-le-mul}

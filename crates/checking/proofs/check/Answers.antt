@@ -1,5 +1,4 @@
 -- `checking::check` meets its contract: the image is opened, run and reported, as the definition says.
-use borrow.Author.Rules.{rules}
 use Rattle.checking.specs.rules.Report.{report_of}
 use Rattle.checking.proofs.check.Goals as goal
 

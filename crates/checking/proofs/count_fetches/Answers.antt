@@ -1,5 +1,4 @@
 -- `checking::count_fetches` meets its contract: the image is opened, run and counted, as the definition says.
-use borrow.Author.Rules.{rules}
 use Rattle.checking.specs.rules.Counting.{counted_of}
 use Rattle.checking.proofs.count_fetches.Goals as goal
 

@@ -1,5 +1,4 @@
 -- `checking::limit_of` meets its contract: the number that was read, or none, is the limit; it is not above 255, so that it fits.
-use borrow.Author.Rules.{rules}
 use mathlib.Core.Path.{sym, ap, ◌∙◌}
 use native.Mathlib.Omega.{arith}
 use Rattle.digits.proofs.Reading.{made}

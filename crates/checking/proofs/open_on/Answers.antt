@@ -1,5 +1,4 @@
 -- `checking::open_on` meets its contract: the windows lent to the opening are the check program's.
-use borrow.Author.Rules.{rules}
 use Rattle.checking.proofs.open_on.Goals as goal
 
 pub returns : goal.returns

@@ -1,5 +1,4 @@
 -- `checking::report_of` meets its contract: the code is 0 exactly where nothing is refused.
-use borrow.Author.Rules.{rules}
 use mathlib.Core.Path.{sym, ◌∙◌}
 use borrow.Author.Tests.{eq-eqb, ne_eqb}
 use Rattle.words.specs.rules.Choice.{pick}

@@ -1,4 +1,4 @@
--- What the check program reports of an image (01, "Marked examples"): one window, memory of zeros, retry limit 0, waits skipped.
+-- What the check program reports of an image: one window, memory of zeros, retry limit 0, waits skipped.
 use Rattle.std.specs.Prelude.{ℕ, List, ◌∷◌, replicate}
 use Rattle.words.specs.rules.Choice.{pick}
 use Rattle.windows.specs.rules.Map.{zero_window}

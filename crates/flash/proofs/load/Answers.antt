@@ -1,5 +1,4 @@
 -- `flash::load` meets its contract: each arm is one case of the judgement.
-use borrow.Author.Rules.{rules}
 use Rattle.flash_commands.specs.rules.Commands.{overflowing}
 use Rattle.flash.specs.rules.Step.{load_judged_as}
 use Rattle.commands.specs.declared.Judged.{Judged}

@@ -1,5 +1,4 @@
 -- `flash::load_answer` meets its contract: it puts together what it calls.
-use borrow.Author.Rules.{rules}
 use Rattle.flash.proofs.load_answer.Goals as goal
 
 pub returns : goal.returns

@@ -5,7 +5,6 @@ use Rattle.flash_session.specs.rules.Sessions.{CallOutcome}
 use Rattle.reading.specs.rules.Reading.{data_words}
 use Rattle.reading.proofs.Reading.{are_there}
 use Rattle.words.specs.rules.Bytes.{bytes_at}
-use borrow.Author.Tests.{not-true, not-false}
 use lib.ListN.{take, drop}
 use native.Mathlib.Omega.{arith}
 use native.Mathlib.Nat.{add-sub_cancel_left}

@@ -1,5 +1,4 @@
 -- `flash::perform` meets its contract: each arm hands its words over, and is one case of the definition.
-use borrow.Author.Rules.{rules}
 use Rattle.flash_session.specs.declared.Session.{Session}
 use Rattle.flash.specs.rules.Step.{performed}
 use Rattle.opcodes.specs.declared.Command.{Command}
@@ -21,7 +20,11 @@ returns-in-Load c =
     let a = c.args in
     let known = c.in-Load.is in
     let done = rw (c.argument_at-in-Load.ensures, c.argument_at.ensures) at
-    c.load.ensures in record { value = done.value ∙ known-answer a.next a.session a.memory.now a.image.now known; memory_after = done.memory_after ∙ known-memory a.next a.session a.memory.now a.image.now known }
+    c.load.ensures in
+    record {
+      value = done.value ∙ known-answer a.next a.session a.memory.now a.image.now known;
+      memory_after = done.memory_after ∙ known-memory a.next a.session a.memory.now a.image.now known;
+    }
 
 pub returns-in-Fill : goal.returns-in-Fill
 returns-in-Fill c =
@@ -33,7 +36,11 @@ returns-in-Fill c =
       c.argument_at-in-Fill-2.ensures,
       c.argument_at-in-Fill.ensures,
     ) at
-    c.fill.ensures in record { value = done.value ∙ known-answer a.next a.session a.memory.now a.image.now known; memory_after = done.memory_after ∙ known-memory a.next a.session a.memory.now a.image.now known }
+    c.fill.ensures in
+    record {
+      value = done.value ∙ known-answer a.next a.session a.memory.now a.image.now known;
+      memory_after = done.memory_after ∙ known-memory a.next a.session a.memory.now a.image.now known;
+    }
 
 pub returns-in-BootTable : goal.returns-in-BootTable
 returns-in-BootTable c =
@@ -45,47 +52,79 @@ returns-in-BootTable c =
       c.argument_at-in-BootTable-2.ensures,
       c.argument_at-in-BootTable.ensures,
     ) at
-    c.boot_table.ensures in record { value = done.value ∙ known-answer a.next a.session a.memory.now a.image.now known; memory_after = done.memory_after ∙ known-memory a.next a.session a.memory.now a.image.now known }
+    c.boot_table.ensures in
+    record {
+      value = done.value ∙ known-answer a.next a.session a.memory.now a.image.now known;
+      memory_after = done.memory_after ∙ known-memory a.next a.session a.memory.now a.image.now known;
+    }
 
 pub returns-in-Enable : goal.returns-in-Enable
 returns-in-Enable c =
     let a = c.args in
     let known = c.in-Enable.is in
-    let done = c.enable.ensures in record { value = done ∙ known-answer a.next a.session a.memory.now a.image.now known; memory_after = known-memory a.next a.session a.memory.now a.image.now known }
+    let done = c.enable.ensures in
+    record {
+      value = done ∙ known-answer a.next a.session a.memory.now a.image.now known;
+      memory_after = known-memory a.next a.session a.memory.now a.image.now known;
+    }
 
 pub returns-in-Disable : goal.returns-in-Disable
 returns-in-Disable c =
     let a = c.args in
     let known = c.in-Disable.is in
-    let done = c.disable.ensures in record { value = done ∙ known-answer a.next a.session a.memory.now a.image.now known; memory_after = known-memory a.next a.session a.memory.now a.image.now known }
+    let done = c.disable.ensures in
+    record {
+      value = done ∙ known-answer a.next a.session a.memory.now a.image.now known;
+      memory_after = known-memory a.next a.session a.memory.now a.image.now known;
+    }
 
 pub returns-in-Request : goal.returns-in-Request
 returns-in-Request c =
     let a = c.args in
     let known = c.in-Request.is in
-    let done = rw (c.argument_at-in-Request-2.ensures, c.argument_at-in-Request.ensures) at c.request.ensures in record { value = done ∙ known-answer a.next a.session a.memory.now a.image.now known; memory_after = known-memory a.next a.session a.memory.now a.image.now known }
+    let done = rw (c.argument_at-in-Request-2.ensures, c.argument_at-in-Request.ensures) at c.request.ensures in
+    record {
+      value = done ∙ known-answer a.next a.session a.memory.now a.image.now known;
+      memory_after = known-memory a.next a.session a.memory.now a.image.now known;
+    }
 
 pub returns-in-StartOver : goal.returns-in-StartOver
 returns-in-StartOver c =
     let a = c.args in
     let known = c.in-StartOver.is in
-    let done = c.halt.ensures in record { value = done ∙ known-answer a.next a.session a.memory.now a.image.now known; memory_after = known-memory a.next a.session a.memory.now a.image.now known }
+    let done = c.halt.ensures in
+    record {
+      value = done ∙ known-answer a.next a.session a.memory.now a.image.now known;
+      memory_after = known-memory a.next a.session a.memory.now a.image.now known;
+    }
 
 pub returns-in-JumpAndClose : goal.returns-in-JumpAndClose
 returns-in-JumpAndClose c =
     let a = c.args in
     let known = c.in-JumpAndClose.is in
     let done = rw (c.argument_at-in-JumpAndClose-3.ensures, c.argument_at-in-JumpAndClose-2.ensures, c.argument_at-in-JumpAndClose.ensures) at
-    c.jump_and_close.ensures in record { value = done ∙ known-answer a.next a.session a.memory.now a.image.now known; memory_after = known-memory a.next a.session a.memory.now a.image.now known }
+    c.jump_and_close.ensures in
+    record {
+      value = done ∙ known-answer a.next a.session a.memory.now a.image.now known;
+      memory_after = known-memory a.next a.session a.memory.now a.image.now known;
+    }
 
 pub returns-in-Ping : goal.returns-in-Ping
 returns-in-Ping c =
     let a = c.args in
     let known = c.in-Ping.is in
-    let done = c.halt-in-Ping.ensures in record { value = done ∙ known-answer a.next a.session a.memory.now a.image.now known; memory_after = known-memory a.next a.session a.memory.now a.image.now known }
+    let done = c.halt-in-Ping.ensures in
+    record {
+      value = done ∙ known-answer a.next a.session a.memory.now a.image.now known;
+      memory_after = known-memory a.next a.session a.memory.now a.image.now known;
+    }
 
 pub returns-in-SequentialRead : goal.returns-in-SequentialRead
 returns-in-SequentialRead c =
     let a = c.args in
     let known = c.in-SequentialRead.is in
-    let done = c.pass_over.ensures in record { value = done ∙ known-answer a.next a.session a.memory.now a.image.now known; memory_after = known-memory a.next a.session a.memory.now a.image.now known }
+    let done = c.pass_over.ensures in
+    record {
+      value = done ∙ known-answer a.next a.session a.memory.now a.image.now known;
+      memory_after = known-memory a.next a.session a.memory.now a.image.now known;
+    }

@@ -1,12 +1,10 @@
 -- `flash::step` meets its contract: its tests are those of the definition, in their order, and what is left is what stands at the offset.
-use borrow.Author.Rules.{rules}
 use Rattle.flash.proofs.Cases.{call_ended, call_memory, call_image, call_read}
 use Rattle.flash_session.proofs.Lengths.{image_small}
 use Rattle.flash_session.specs.declared.Called.{Called}
 use Rattle.flash.specs.rules.Step.{followed}
 use Rattle.flash_session.specs.rules.Sessions.{CallOutcome}
 use Rattle.reading.proofs.Reading.{whole_there}
-use borrow.Author.Tests.{not-true, not-false}
 use lib.ListN.{length}
 use native.Mathlib.Omega.{arith}
 use mathlib.Core.Path.{◌≡◌, refl, sym, ap, ◌∙◌}

@@ -1,5 +1,4 @@
 -- `flash_commands::boot_table` meets its contract: it is judged and done as the definition says.
-use borrow.Author.Rules.{rules}
 use Rattle.flash_commands.specs.rules.Commands.{out_of_numbers, setting_judged_as}
 use Rattle.commands.specs.declared.Judged.{Judged}
 use Rattle.flash_session.specs.rules.Sessions.{CallOutcome}

@@ -1,5 +1,4 @@
 -- `flash_commands::disable` meets its contract: the session is moved past its words and is otherwise as the definition says.
-use borrow.Author.Rules.{rules}
 use Rattle.flash_commands.proofs.disable.Goals as goal
 
 pub returns : goal.returns

@@ -1,5 +1,4 @@
 -- `flash_commands::fill` meets its contract: it is judged and done as the definition says.
-use borrow.Author.Rules.{rules}
 use Rattle.flash_commands.specs.rules.Commands.{overflowing, out_of_numbers, fill_judged_as}
 use Rattle.commands.specs.declared.Judged.{Judged}
 use Rattle.flash_session.specs.rules.Sessions.{CallOutcome}

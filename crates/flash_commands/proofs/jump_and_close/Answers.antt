@@ -1,5 +1,4 @@
 -- `flash_commands::jump_and_close` meets its contract: the entry and the totals are judged in their order, and the session is ended.
-use borrow.Author.Rules.{rules}
 use Rattle.flash_commands.proofs.jump_and_close.Goals as goal
 
 pub returns : goal.returns

@@ -1,5 +1,4 @@
 -- `flash_commands::out_of_numbers` meets its contract: it puts together what it calls.
-use borrow.Author.Rules.{rules}
 use Rattle.flash_commands.proofs.out_of_numbers.Goals as goal
 
 pub returns : goal.returns

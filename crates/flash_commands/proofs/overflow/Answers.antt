@@ -1,5 +1,4 @@
 -- `flash_commands::overflow` meets its contract: it puts together what it calls.
-use borrow.Author.Rules.{rules}
 use Rattle.flash_commands.proofs.overflow.Goals as goal
 
 pub returns : goal.returns

@@ -1,5 +1,4 @@
 -- `flash_commands::request` meets its contract: a match, spent retries and the seek are tested in the definition's order.
-use borrow.Author.Rules.{rules}
 use Rattle.flash_commands.specs.rules.Commands.{requested}
 use Rattle.words.proofs.Choice.{chosen, passed}
 use borrow.Author.Tests.{le-leb, lt-leb, eq-eqb, ne_eqb}

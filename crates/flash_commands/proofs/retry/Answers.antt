@@ -1,5 +1,4 @@
 -- `flash_commands::retry` meets its contract: each arm is one case of where the seek leads.
-use borrow.Author.Rules.{rules}
 use Rattle.flash_commands.specs.rules.Commands.{sought_as}
 use mathlib.Core.Path.{sym, ap, ◌∙◌}
 use Rattle.flash_commands.proofs.retry.Goals as goal

@@ -1,4 +1,4 @@
--- The order of the two numbers that a Jump & Close is refused with (02, request 5).
+-- The order of the two numbers that a Jump & Close is refused with.
 use Rattle.std.specs.Prelude.{ℕ, true, ◌≡◌}
 use Rattle.opcodes.specs.rules.Answers.{code_of}
 use Rattle.ledger.specs.rules.Totals.{standing, differs}

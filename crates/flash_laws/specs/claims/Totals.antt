@@ -1,4 +1,4 @@
--- The totals of a flash session (02, request 5): what they count, what an entry says of them, and that AM17xx has nothing of them.
+-- The totals of a flash session: what they count, what an entry says of them, and that AM17xx has nothing of them.
 use Rattle.std.specs.Prelude.{ℕ, false, List, [], ◌∷◌, ◌++◌, ◌≡◌}
 use Rattle.words.specs.rules.Bytes.{word_at}
 use Rattle.words.specs.rules.Choice.{pick}

@@ -1,7 +1,6 @@
 -- `flash_runs::goes_on` meets its contract: its two tests are those of the definition.
 use mathlib.Core.Path.{sym}
 use native.Mathlib.Omega.{arith}
-use borrow.Author.Rules.{rules}
 use Rattle.flash_runs.proofs.Calls.{accepted_goes, refused_stops}
 use Rattle.flash_runs.proofs.goes_on.Goals as goal
 

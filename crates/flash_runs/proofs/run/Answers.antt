@@ -1,17 +1,13 @@
 -- `flash_runs::run` meets its contract: the calls that are left lead to the same outcome, the same numbers and offsets and the same room as all of them.
 use Prim.Native.Nat.{◌+◌, ◌/◌, ◌^◌}
-use mathlib.Core.Path.{◌≡◌, refl, sym, ◌∙◌}
+use mathlib.Core.Path.{refl, sym, ◌∙◌}
 use native.Mathlib.Nat.{mul-le-mul}
 use native.Mathlib.Omega.{arith}
-use borrow.Author.Tests.{not-true, not-false}
-use lib.ListN.{length, take}
 use borrow.Author.Rules.{rules}
-use Rattle.event_room.specs.rules.Room.{place_after, room_after}
-use Rattle.flash.specs.rules.Step.{step_of}
-use Rattle.flash_runs.specs.rules.Entries.{number_wrote, offset_wrote, stamps_on, run_stamps}
-use Rattle.flash_runs.specs.rules.Events.{events_on, run_events}
-use Rattle.flash_runs.specs.rules.Run.{carried_on, run_of}
-use Rattle.flash_runs.proofs.Running.{spent, stops, Leads, leads_on, leads_last}
+use Rattle.flash_runs.specs.rules.Entries.{run_stamps}
+use Rattle.flash_runs.specs.rules.Events.{run_events}
+use Rattle.flash_runs.specs.rules.Run.{run_of}
+use Rattle.flash_runs.proofs.Running.{spent, stops, leads_on, leads_last}
 use Rattle.flash_runs.proofs.run.Goals as goal
 
 pub overflow_mul-left : goal.overflow_mul-left
@@ -27,15 +23,36 @@ pub returns-then-left-eq0 : goal.returns-then-left-eq0
 unfolding run_of run_stamps run_events
 returns-then-left-eq0 c =
     let call = c.call-called.ensures in
-    let loop = c.loop-left in let parts = leads_last _ _ loop.live loop.memory call.value call.memory_after loop.left _ call.1.1 c.tell-place.ensures loop.invariant.4
-    (spent c.if-left-eq0.true) in record { called_value = parts.0; memory_after = parts.1; numbers_after = parts.2; offsets_after = parts.3; told_value = parts.4; room_after = parts.5 }
+    let loop = c.loop-left in
+    let parts = leads_last _ _ loop.live loop.memory call.value call.memory_after loop.left _
+    (call.numbers_after, call.offsets_after) (c.tell-place.ensures.value, c.tell-place.ensures.room_after) loop.invariant.4
+    (spent c.if-left-eq0.true) in
+    record {
+      called_value = parts.0;
+      memory_after = parts.1.0;
+      numbers_after = parts.1.1.0;
+      offsets_after = parts.1.1.1.0;
+      told_value = parts.1.1.1.1.0;
+      room_after = parts.1.1.1.1.1;
+    }
 
 pub returns-then-not-goes_on : goal.returns-then-not-goes_on
 unfolding run_of run_stamps run_events
 returns-then-not-goes_on c =
     let call = c.call-called.ensures in
     let loop = c.loop-left in
-    let over = sym c.goes_on.ensures ∙ c.if-not-goes_on.true in let parts = leads_last _ _ loop.live loop.memory call.value call.memory_after loop.left _ call.1.1 c.tell-place.ensures loop.invariant.4 (stops over) in record { called_value = parts.0; memory_after = parts.1; numbers_after = parts.2; offsets_after = parts.3; told_value = parts.4; room_after = parts.5 }
+    let over = sym c.goes_on.ensures ∙ c.if-not-goes_on.true in
+    let parts = leads_last _ _ loop.live loop.memory call.value call.memory_after loop.left _
+    (call.numbers_after, call.offsets_after) (c.tell-place.ensures.value, c.tell-place.ensures.room_after) loop.invariant.4
+    (stops over) in
+    record {
+      called_value = parts.0;
+      memory_after = parts.1.0;
+      numbers_after = parts.1.1.0;
+      offsets_after = parts.1.1.1.0;
+      told_value = parts.1.1.1.1.0;
+      room_after = parts.1.1.1.1.1;
+    }
 
 pub loop-left-preserved : goal.loop-left-preserved
 loop-left-preserved c =
@@ -46,6 +63,6 @@ loop-left-preserved c =
       search rules,
       search rules,
       search rules,
-      leads_on _ _ loop.live loop.memory call.value call.memory_after loop.left _ call.1.1 c.tell-place.ensures loop.invariant.4
-          c.if-left-eq0.false more,
+      leads_on _ _ loop.live loop.memory call.value call.memory_after loop.left _ (call.numbers_after, call.offsets_after)
+          (c.tell-place.ensures.value, c.tell-place.ensures.room_after) loop.invariant.4 c.if-left-eq0.false more,
     )

@@ -10,7 +10,6 @@ use Rattle.flash_session.specs.rules.Sessions.{CallOutcome}
 use Rattle.flash_runs.specs.rules.Entries.{stamps_from}
 use Rattle.flash_runs.specs.rules.Events.{events_from}
 use Rattle.flash_runs.specs.rules.Run.{ran_from}
-use borrow.Author.Rules.{rules}
 use Rattle.flash_runs.proofs.run_from.Goals as goal
 
 pub returns-then-code-eq0 : goal.returns-then-code-eq0
@@ -22,7 +21,14 @@ returns-then-code-eq0 c =
     let events = sym (chosen _ _ _ opens) in
     let room = a.room.now in
     let run = c.run.ensures in
-    let beside = run.1.1 in record { called_value = run.called_value ∙ ap (λ (o : CallOutcome). o.answer) whole; memory_after = run.memory_after ∙ ap (λ (o : CallOutcome). o.memory) whole; numbers_after = beside.0 ∙ sym (chosen _ _ _ opens); offsets_after = beside.1.0 ∙ sym (chosen _ _ _ opens); told_value = beside.1.1.0 ∙ ap (λ (es : List Event). place_after (length room) 0 es) events; room_after = beside.1.1.1 ∙ ap (λ (es : List Event). room_after room 0 es) events }
+    record {
+      called_value = run.called_value ∙ ap (λ (o : CallOutcome). o.answer) whole;
+      memory_after = run.memory_after ∙ ap (λ (o : CallOutcome). o.memory) whole;
+      numbers_after = run.numbers_after ∙ sym (chosen _ _ _ opens);
+      offsets_after = run.offsets_after ∙ sym (chosen _ _ _ opens);
+      told_value = run.told_value ∙ ap (λ (es : List Event). place_after (length room) 0 es) events;
+      room_after = run.room_after ∙ ap (λ (es : List Event). room_after room 0 es) events;
+    }
 
 pub returns : goal.returns
 unfolding ran_from stamps_from events_from place_after room_after
@@ -30,16 +36,12 @@ returns c =
     let room = c.args.room.now in
     let refused = ne_eqb _ _ (λ e. c.if-code-eq0.false (c.code.ensures ∙ e)) in
     let none = sym (passed _ _ _ refused) in
-    let events = sym (passed _ _ _ refused) in let parts = rw c.wrote_none-wrote.ensures ((
-      ap (λ (o : CallOutcome). o.answer) none,
-      (
-        ap (λ (o : CallOutcome). o.memory) none,
-        (
-          sym (passed _ _ _ refused),
-          (
-            sym (passed _ _ _ refused),
-            (ap (λ (es : List Event). place_after (length room) 0 es) events, ap (λ (es : List Event). room_after room 0 es) events),
-          ),
-        ),
-      ),
-    )) in record { called_value = parts.0; memory_after = parts.1; numbers_after = parts.2; offsets_after = parts.3; told_value = parts.4; room_after = parts.5 }
+    let events = sym (passed _ _ _ refused) in
+    record {
+      called_value = rw c.wrote_none-wrote.ensures (ap (λ (o : CallOutcome). o.answer) none);
+      memory_after = ap (λ (o : CallOutcome). o.memory) none;
+      numbers_after = sym (passed _ _ _ refused);
+      offsets_after = sym (passed _ _ _ refused);
+      told_value = ap (λ (es : List Event). place_after (length room) 0 es) events;
+      room_after = ap (λ (es : List Event). room_after room 0 es) events;
+    }

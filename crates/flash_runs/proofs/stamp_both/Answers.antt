@@ -1,7 +1,6 @@
 -- `flash_runs::stamp_both` meets its contract: where nothing was written, no word is chosen or there are no entries, stamping keeps all.
 use mathlib.Core.Path.{sym}
 use Rattle.bit_stamps.proofs.Stamping.{none_taken, none_written, none_beside}
-use borrow.Author.Rules.{rules}
 use Rattle.flash_runs.proofs.stamp_both.Goals as goal
 
 pub returns-then-wrote-eq0 : goal.returns-then-wrote-eq0
@@ -14,5 +13,4 @@ pub returns-then-offsets-eq0 : goal.returns-then-offsets-eq0
 returns-then-offsets-eq0 c = record { numbers_after = c.stamp.ensures; offsets_after = sym (none_beside _ _ _ c.if-offsets-eq0.true) }
 
 pub returns : goal.returns
-returns c = record { numbers_after = c.stamp.ensures; offsets_after = rw c.renumber.ensures at
-      c.stamp-2.ensures }
+returns c = record { numbers_after = c.stamp.ensures; offsets_after = rw c.renumber.ensures at c.stamp-2.ensures }

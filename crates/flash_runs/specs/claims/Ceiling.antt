@@ -1,4 +1,4 @@
--- The most words that a boot fetches (02, request 11), for any calls after an opening, whatever is lent to each; and that an image meets it.
+-- The most words that a boot fetches, for any calls after an opening, whatever is lent to each; and that an image meets it.
 use Rattle.std.specs.Prelude.{ℕ, ◌+◌, ◌*◌, ◌/◌, ◌≤◌, true, false, List, [], ◌∷◌, ◌≡◌, length, replicate}
 use Rattle.windows.specs.rules.Map.{zero_window}
 use Rattle.opcodes.specs.declared.Dialect.TheVariants.{Am17xx}

@@ -1,4 +1,4 @@
--- How many words a boot fetches (02, request 11): what the opening and each call prescribe, and that the session counts exactly these.
+-- How many words a boot fetches: what the opening and each call prescribe, and that the session counts exactly these.
 use Rattle.std.specs.Prelude.{ℕ, ◌+◌, ◌<◌, ◌||◌, List, ◌≡◌, eqb}
 use Rattle.words.specs.rules.Bytes.{word_at}
 use Rattle.words.specs.rules.Choice.{pick}

@@ -1,4 +1,4 @@
--- The entries beside a flash session (02, request 6): after each call those of the bits that it tells that it wrote have its number, all others are kept. So
+-- The entries beside a flash session: after each call those of the bits that it tells that it wrote have its number, all others are kept. So
 -- have a second row of entries its offset in the image.
 use Rattle.std.specs.Prelude.{ℕ, zero, suc, List}
 use Rattle.words.specs.rules.Choice.{pick}

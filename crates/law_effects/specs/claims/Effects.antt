@@ -1,4 +1,4 @@
--- What Load, Fill and Boot Table do to memory, bit by bit (01, "Commands"): which bits a command writes and what they become, whatever memory
+-- What Load, Fill and Boot Table do to memory, bit by bit: which bits a command writes and what they become, whatever memory
 -- held before.
 use Rattle.std.specs.Prelude.{ℕ, ◌+◌, ◌-◌, ◌*◌, ◌/◌, ◌%◌, ◌≤◌, ◌<◌, Bool, false, ◌||◌, List, [], ◌∷◌, ◌≡◌, length, get_or}
 use Rattle.words.specs.rules.Bits.{bit, within}

@@ -1,4 +1,4 @@
--- What a ward may be told of a field that a Boot Table command sets (01, "Commands", as request 2 of 02 amends it): the field holds the data, all of
+-- What a ward may be told of a field that a Boot Table command sets: the field holds the data, all of
 -- them, or the command is refused.
 use Rattle.std.specs.Prelude.{ℕ, ◌+◌, ◌*◌, ◌/◌, ◌%◌, ◌^◌, ◌≤◌, ◌<◌, false, List, [], ◌∷◌, ◌≡◌, length, replicate}
 use Rattle.words.specs.rules.Bits.{within}

@@ -1,4 +1,4 @@
--- What a command says that it wrote is what its own effect gives to memory (02, request 6).
+-- What a command says that it wrote is what its own effect gives to memory.
 use Rattle.std.specs.Prelude.{ℕ, List, ◌≡◌, length}
 use Rattle.windows.specs.rules.Window.{sum_of}
 use Rattle.windows.specs.declared.Window.{Window}

@@ -1,4 +1,4 @@
--- An image of the survey (02, request 14): its outcome, the option word that its run leaves, and how many bits of it are one or unlike another's.
+-- An image of the survey: its outcome, the option word that its run leaves, and how many bits of it are one or unlike another's.
 use Rattle.std.specs.Prelude.{ℕ, Bool, true, false, ◌&&◌, List, bit_xor, count_ones}
 use Rattle.words.specs.rules.Bytes.{word_at}
 use Rattle.words.specs.rules.Choice.{pick}
