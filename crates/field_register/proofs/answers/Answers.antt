@@ -1,5 +1,4 @@
 -- `field_register::answers` meets its contract: of a line about the subject the release decides.
-use borrow.Author.Rules.{rules}
 use mathlib.Core.Path.{sym, ◌∙◌}
 use Rattle.field_register.specs.rules.Questions.{answers as lineAnswers}
 use Rattle.field_register.proofs.answers.Goals as goal

@@ -1,5 +1,4 @@
 -- `field_register::ask` meets its contract: the lines of the register are its first.
-use borrow.Author.Rules.{rules}
 use Rattle.field_register.specs.rules.Reading.{lines_in}
 use Rattle.field_register.proofs.ask.Goals as goal
 

@@ -1,10 +1,8 @@
 -- What each turn keeps.
-use borrow.Author.Rules.{rules}
-use mathlib.Core.Path.{◌≡◌, sym, ◌∙◌}
+use mathlib.Core.Path.{◌≡◌}
 use Prim.Native.Nat.{◌-◌, ◌≤◌}
 use lib.ListN.{take, drop}
 use Rattle.field_register.specs.rules.Reading.{clashes}
-use Rattle.field_register.proofs.LinesLeft.{clashes_none, clashes_here, clashes_on}
 use Rattle.field_register.proofs.clashes_any.Given as goal
 
 abbrev pub invariant-loop-i : goal.invariant-loop-i

@@ -1,5 +1,4 @@
 -- `field_register::command` meets its contract: the line that the name is, and its command.
-use borrow.Author.Rules.{rules}
 use Rattle.field_register.proofs.command.Goals as goal
 
 pub returns : goal.returns

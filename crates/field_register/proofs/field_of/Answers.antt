@@ -1,5 +1,4 @@
 -- `field_register::field_of` meets its contract: it asks about the bit.
-use borrow.Author.Rules.{rules}
 use Rattle.field_register.proofs.field_of.Goals as goal
 
 pub returns : goal.returns

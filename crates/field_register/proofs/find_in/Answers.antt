@@ -1,9 +1,6 @@
 -- `field_register::find_in` meets its contract: the first that answers of the lines that are left is the first of all.
 use borrow.Author.Rules.{rules}
-use mathlib.Core.Path.{◌≡◌, sym, ◌∙◌}
-use Prim.Native.Nat.{◌-◌, ◌≤◌}
-use lib.ListN.{take, drop}
-use Rattle.field_register.specs.rules.Questions.{found_in}
+use mathlib.Core.Path.{sym, ◌∙◌}
 use Rattle.field_register.proofs.LinesLeft.{found_none, found_past, found_here, found_on}
 use Rattle.field_register.proofs.find_in.Goals as goal
 
@@ -20,13 +17,12 @@ returns-then-answers c =
     ∙ c.loop-i.invariant.1
 
 pub loop-i-preserved : goal.loop-i-preserved
-loop-i-preserved c =
-    (
-      search rules,
-      found_on _ c.args.count c.args.lines c.loop-i.i (search rules) (search rules) c.args.subject c.args.release
-          (sym c.answers.ensures ∙ c.if-answers.false)
-          ∙ c.loop-i.invariant.1,
-    )
+loop-i-preserved c = (
+  search rules,
+  found_on _ c.args.count c.args.lines c.loop-i.i (search rules) (search rules) c.args.subject c.args.release
+      (sym c.answers.ensures ∙ c.if-answers.false)
+      ∙ c.loop-i.invariant.1,
+)
 
 pub returns : goal.returns
 returns c =

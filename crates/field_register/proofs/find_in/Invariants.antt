@@ -1,10 +1,8 @@
 -- What each turn keeps.
-use borrow.Author.Rules.{rules}
-use mathlib.Core.Path.{◌≡◌, sym, ◌∙◌}
+use mathlib.Core.Path.{◌≡◌}
 use Prim.Native.Nat.{◌-◌, ◌≤◌}
 use lib.ListN.{take, drop}
 use Rattle.field_register.specs.rules.Questions.{found_in}
-use Rattle.field_register.proofs.LinesLeft.{found_none, found_past, found_here, found_on}
 use Rattle.field_register.proofs.find_in.Given as goal
 
 abbrev pub invariant-loop-i : goal.invariant-loop-i

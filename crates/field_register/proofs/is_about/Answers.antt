@@ -1,5 +1,4 @@
 -- `field_register::is_about` meets its contract: each way is one side of the choice.
-use borrow.Author.Rules.{rules}
 use mathlib.Core.Path.{sym, ◌∙◌}
 use Rattle.words.proofs.Choice.{chosen, passed}
 use Rattle.field_register.specs.rules.Questions.{is_about}

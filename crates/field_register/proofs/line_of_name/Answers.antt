@@ -1,5 +1,4 @@
 -- `field_register::line_of_name` meets its contract: it asks about the name that the bytes are.
-use borrow.Author.Rules.{rules}
 use Rattle.field_register.proofs.line_of_name.Goals as goal
 
 pub returns : goal.returns

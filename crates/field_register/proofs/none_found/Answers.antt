@@ -1,5 +1,4 @@
 -- `field_register::none_found` meets its contract: it holds no line.
-use borrow.Author.Rules.{rules}
 use Rattle.field_register.proofs.none_found.Goals as goal
 
 pub returns : goal.returns

@@ -1,12 +1,10 @@
 -- What each turn keeps.
-use borrow.Author.Rules.{rules}
 use mathlib.Core.List.{[]}
-use mathlib.Core.Path.{◌≡◌, refl, sym, ◌∙◌}
+use mathlib.Core.Path.{◌≡◌}
 use Prim.Native.Nat.{◌-◌, ◌≤◌}
-use borrow.Author.Tests.{not-true, not-false}
 use lib.ListN.{length, take}
 use Rattle.field_register.specs.rules.Reading.{read_from}
-use Rattle.field_register.proofs.ReadingOn.{Room, read_all, read_beyond, read_malformed, read_clash, read_on, room_on}
+use Rattle.field_register.proofs.ReadingOn.{Room}
 use Rattle.field_register.proofs.read.Given as goal
 
 abbrev pub invariant-loop-at : goal.invariant-loop-at

@@ -1,5 +1,4 @@
 -- `field_register::refused_at` meets its contract: the empty register has no line.
-use borrow.Author.Rules.{rules}
 use Rattle.field_register.specs.rules.Reading.{kept}
 use Rattle.field_register.proofs.refused_at.Goals as goal
 

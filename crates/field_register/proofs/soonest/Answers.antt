@@ -1,9 +1,6 @@
 -- `field_register::soonest` meets its contract: the soonest so far leads with the lines that are left to the soonest of all.
 use borrow.Author.Rules.{rules}
-use mathlib.Core.Path.{◌≡◌, ◌∙◌}
-use Prim.Native.Nat.{◌-◌, ◌≤◌}
-use lib.ListN.{take, drop}
-use Rattle.field_register.specs.rules.Questions.{soonest as soonestOf}
+use mathlib.Core.Path.{◌∙◌}
 use Rattle.field_register.proofs.LinesLeft.{soonest_none, soonest_past, soonest_on}
 use Rattle.field_register.proofs.soonest.Goals as goal
 
@@ -14,14 +11,13 @@ returns-then-count-i c =
     ∙ c.loop-i.invariant.1
 
 pub loop-i-preserved : goal.loop-i-preserved
-loop-i-preserved c =
-    (
-      search rules,
-      rw c.sooner-best.ensures
-          (soonest_on _ c.args.count c.args.lines c.loop-i.i (search rules) (search rules) c.args.subject c.args.release
-          c.loop-i.best)
-          ∙ c.loop-i.invariant.1,
-    )
+loop-i-preserved c = (
+  search rules,
+  rw c.sooner-best.ensures
+      (soonest_on _ c.args.count c.args.lines c.loop-i.i (search rules) (search rules) c.args.subject c.args.release
+      c.loop-i.best)
+      ∙ c.loop-i.invariant.1,
+)
 
 pub returns : goal.returns
 returns c =

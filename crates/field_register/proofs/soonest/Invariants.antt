@@ -1,10 +1,8 @@
 -- What each turn keeps.
-use borrow.Author.Rules.{rules}
-use mathlib.Core.Path.{◌≡◌, ◌∙◌}
+use mathlib.Core.Path.{◌≡◌}
 use Prim.Native.Nat.{◌-◌, ◌≤◌}
 use lib.ListN.{take, drop}
 use Rattle.field_register.specs.rules.Questions.{soonest as soonestOf}
-use Rattle.field_register.proofs.LinesLeft.{soonest_none, soonest_past, soonest_on}
 use Rattle.field_register.proofs.soonest.Given as goal
 
 abbrev pub invariant-loop-i : goal.invariant-loop-i

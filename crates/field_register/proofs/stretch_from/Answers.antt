@@ -1,6 +1,4 @@
 -- `field_register::stretch_from` meets its contract: each way is one side of the choice.
-use borrow.Author.Rules.{rules}
-use Rattle.field_register.specs.rules.Questions.{soonest}
 use Rattle.field_register.specs.rules.Reading.{lines_in}
 use Rattle.field_register.proofs.Stretches.{stretch_line, stretch_none}
 use Rattle.field_register.proofs.stretch_from.Goals as goal

@@ -1,5 +1,4 @@
 -- `field_register::words_for` meets its contract: word by word.
-use borrow.Author.Rules.{rules}
 use native.Mathlib.Omega.{arith}
 use mathlib.Core.List.{[], ◌∷◌}
 use mathlib.Core.Path.{ap}
