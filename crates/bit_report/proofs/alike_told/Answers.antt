@@ -1,8 +1,6 @@
 -- `bit_report::alike_told` meets its contract: it compares the writers, and then the names.
-use borrow.Author.Rules.{rules}
 use mathlib.Core.Path.{sym, ap, ◌∙◌}
 use mathlib.Core.Bool.{Bool, ◌&&◌}
-use borrow.Author.Tests.{not-true, not-false}
 use Rattle.bit_report.specs.rules.Parts.{same_field, alike}
 use Rattle.bit_report.proofs.alike_told.Goals as goal
 

@@ -1,5 +1,4 @@
 -- `bit_report::by_one` meets its contract: it compares the numbers, and then the offsets.
-use borrow.Author.Rules.{rules}
 use mathlib.Core.Path.{sym, ap, ap₂, ◌∙◌}
 use mathlib.Core.Bool.{Bool, ◌&&◌}
 use borrow.Author.Tests.{eq-eqb, ne_eqb}

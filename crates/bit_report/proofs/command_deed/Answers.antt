@@ -1,5 +1,4 @@
 -- `bit_report::command_deed` meets its contract: each arm is one case of the definition.
-use borrow.Author.Rules.{rules}
 use mathlib.Core.Path.{sym, ap, ◌∙◌}
 use Rattle.opcodes.specs.declared.Command.{Command}
 use Rattle.bit_report.specs.rules.Deeds.{command_deed}

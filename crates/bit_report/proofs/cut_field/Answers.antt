@@ -1,9 +1,7 @@
 -- `bit_report::cut_field` meets its contract: one is cut where the lowest of those that are left is found.
 use borrow.Author.Rules.{rules}
-use mathlib.Core.Path.{◌≡◌, sym, ◌∙◌}
-use Prim.Native.Nat.{◌-◌}
+use mathlib.Core.Path.{sym, ◌∙◌}
 use Rattle.bit_report.specs.rules.Fields.{has_cut, cut_field}
-use Rattle.bit_report.specs.rules.Lowest.{lowest_in}
 use Rattle.bit_report.proofs.Lowest.{lowest_on, seen_here, seen_none}
 use Rattle.bit_report.proofs.cut_field.Goals as goal
 

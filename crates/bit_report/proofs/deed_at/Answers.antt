@@ -1,5 +1,4 @@
 -- `bit_report::deed_at` meets its contract: each arm is one case of what the table says of the opcode.
-use borrow.Author.Rules.{rules}
 use mathlib.Core.Path.{sym, ap, ◌∙◌}
 use Prim.Native.Nat.{ℕ}
 use Rattle.opcodes.specs.rules.Opcodes.{looked_up}

@@ -1,5 +1,4 @@
 -- `bit_report::entry` meets its contract: the low half of a word is two bytes.
-use borrow.Author.Rules.{rules}
 use Rattle.bit_report.proofs.Entries.{entry_word}
 use Rattle.bit_report.proofs.entry.Goals as goal
 

@@ -1,10 +1,8 @@
 -- `bit_report::first_field` meets its contract: the lowest bit of those that are left is the lowest of all.
 use borrow.Author.Rules.{rules}
-use mathlib.Core.Path.{◌≡◌, sym, ap, ◌∙◌}
-use Prim.Native.Nat.{◌-◌}
+use mathlib.Core.Path.{sym, ap, ◌∙◌}
 use Rattle.field_register.specs.declared.FoundLine.{FoundLine}
 use Rattle.bit_report.specs.rules.Fields.{has_field}
-use Rattle.bit_report.specs.rules.Lowest.{lowest_in}
 use Rattle.bit_report.proofs.Lowest.{lowest_none, lowest_here, lowest_on}
 use Rattle.bit_report.proofs.first_field.Goals as goal
 

@@ -1,5 +1,4 @@
 -- `bit_report::has_cut` meets its contract: a bit of no field is in none that is cut.
-use borrow.Author.Rules.{rules}
 use mathlib.Core.Path.{sym, ap, ◌∙◌}
 use mathlib.Core.Bool.{Bool, ◌&&◌}
 use borrow.Author.Tests.{not-true, not-false}
@@ -15,7 +14,7 @@ returns-then-not-field c =
     let field = c.field_at-field.ensures in
     sym (
     ap (λ (t : Bool). t && reaches_out (field_at a.names a.word a.bit).line a.from a.to)
-    (ap (λ (f : FoundLine). f.found) (sym field) ∙ c.if-not-field.true)
+    (ap (λ (f : FoundLine). f.found) (sym field) ∙ not-true _ c.if-not-field.true)
     )
 
 pub returns : goal.returns
@@ -27,5 +26,5 @@ returns c =
     ∙ ap (λ (f : FoundLine). reaches_out f.line a.from a.to) field
     ∙ sym (
     ap (λ (t : Bool). t && reaches_out (field_at a.names a.word a.bit).line a.from a.to)
-    (ap (λ (f : FoundLine). f.found) (sym field) ∙ c.if-not-field.false)
+    (ap (λ (f : FoundLine). f.found) (sym field) ∙ not-false _ c.if-not-field.false)
     )

@@ -1,5 +1,4 @@
 -- `bit_report::has_other` meets its contract: a bit of no field is in none of another name.
-use borrow.Author.Rules.{rules}
 use mathlib.Core.Path.{sym, ap, ◌∙◌}
 use mathlib.Core.Bool.{Bool, not, ◌&&◌}
 use borrow.Author.Tests.{not-true, not-false}
@@ -15,7 +14,7 @@ returns-then-not-own c =
     let field = c.field_at-own.ensures in
     sym (
     ap (λ (t : Bool). t && not (same_field (field_at a.names a.word a.bit) a.field))
-    (ap (λ (f : FoundLine). f.found) (sym field) ∙ c.if-not-own.true)
+    (ap (λ (f : FoundLine). f.found) (sym field) ∙ not-true _ c.if-not-own.true)
     )
 
 pub returns : goal.returns
@@ -26,5 +25,5 @@ returns c =
     ap not (c.same_name.ensures ∙ ap (λ (f : FoundLine). same_field f a.field) field)
     ∙ sym (
     ap (λ (t : Bool). t && not (same_field (field_at a.names a.word a.bit) a.field))
-    (ap (λ (f : FoundLine). f.found) (sym field) ∙ c.if-not-own.false)
+    (ap (λ (f : FoundLine). f.found) (sym field) ∙ not-false _ c.if-not-own.false)
     )

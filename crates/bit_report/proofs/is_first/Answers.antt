@@ -1,9 +1,7 @@
 -- `bit_report::is_first` meets its contract: it is the first unless the lowest of those that are left is below it.
 use borrow.Author.Rules.{rules}
-use mathlib.Core.Path.{◌≡◌, sym, ap, ◌∙◌}
+use mathlib.Core.Path.{sym, ap, ◌∙◌}
 use mathlib.Core.Bool.{not}
-use Prim.Native.Nat.{◌-◌}
-use Rattle.bit_report.specs.rules.Lowest.{lowest_in}
 use Rattle.bit_report.specs.rules.Parts.{by_one, is_first}
 use Rattle.bit_report.proofs.Lowest.{lowest_on, seen_here, seen_none}
 use Rattle.bit_report.proofs.is_first.Goals as goal

@@ -1,11 +1,8 @@
 -- What each turn keeps.
-use borrow.Author.Rules.{rules}
-use mathlib.Core.Path.{◌≡◌, sym, ap, ◌∙◌}
-use mathlib.Core.Bool.{not}
+use mathlib.Core.Path.{◌≡◌}
 use Prim.Native.Nat.{◌-◌}
 use Rattle.bit_report.specs.rules.Lowest.{lowest_in}
-use Rattle.bit_report.specs.rules.Parts.{by_one, is_first}
-use Rattle.bit_report.proofs.Lowest.{lowest_on, seen_here, seen_none}
+use Rattle.bit_report.specs.rules.Parts.{by_one}
 use Rattle.bit_report.proofs.is_first.Given as goal
 
 abbrev pub invariant-loop-i : goal.invariant-loop-i

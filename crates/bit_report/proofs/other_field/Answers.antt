@@ -1,9 +1,7 @@
 -- `bit_report::other_field` meets its contract: the lowest bit of those that are left is the lowest of all.
 use borrow.Author.Rules.{rules}
-use mathlib.Core.Path.{◌≡◌, sym, ◌∙◌}
-use Prim.Native.Nat.{◌-◌}
+use mathlib.Core.Path.{sym, ◌∙◌}
 use Rattle.bit_report.specs.rules.Fields.{has_other}
-use Rattle.bit_report.specs.rules.Lowest.{lowest_in}
 use Rattle.bit_report.proofs.Lowest.{lowest_none, lowest_here, lowest_on}
 use Rattle.bit_report.proofs.other_field.Goals as goal
 

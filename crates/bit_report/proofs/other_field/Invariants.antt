@@ -1,10 +1,8 @@
 -- What each turn keeps.
-use borrow.Author.Rules.{rules}
-use mathlib.Core.Path.{◌≡◌, sym, ◌∙◌}
+use mathlib.Core.Path.{◌≡◌}
 use Prim.Native.Nat.{◌-◌}
 use Rattle.bit_report.specs.rules.Fields.{has_other}
 use Rattle.bit_report.specs.rules.Lowest.{lowest_in}
-use Rattle.bit_report.proofs.Lowest.{lowest_none, lowest_here, lowest_on}
 use Rattle.bit_report.proofs.other_field.Given as goal
 
 abbrev pub invariant-loop-i : goal.invariant-loop-i

@@ -1,11 +1,8 @@
 -- What each turn keeps.
-use borrow.Author.Rules.{rules}
-use mathlib.Core.Path.{◌≡◌, sym, ap, ap₂, ◌∙◌}
-use mathlib.Core.Bool.{not}
+use mathlib.Core.Path.{◌≡◌}
 use Prim.Native.Nat.{◌-◌, ◌+◌, ◌≤◌}
 use Rattle.bit_report.specs.rules.Lowest.{lowest_in}
-use Rattle.bit_report.specs.rules.Parts.{alike, unlike_at, part_end}
-use Rattle.bit_report.proofs.Lowest.{lowest_none, lowest_here, lowest_on}
+use Rattle.bit_report.specs.rules.Parts.{unlike_at}
 use Rattle.bit_report.proofs.part_end.Given as goal
 
 abbrev pub invariant-loop-i : goal.invariant-loop-i

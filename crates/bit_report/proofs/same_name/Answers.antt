@@ -1,5 +1,4 @@
 -- `bit_report::same_name` meets its contract: it is the comparison of the two names.
-use borrow.Author.Rules.{rules}
 use Rattle.bit_report.specs.rules.Parts.{same_field}
 use Rattle.bit_report.proofs.same_name.Goals as goal
 

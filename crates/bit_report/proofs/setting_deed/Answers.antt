@@ -1,5 +1,4 @@
 -- `bit_report::setting_deed` meets its contract: each word is what a call promises.
-use borrow.Author.Rules.{rules}
 use Rattle.bit_report.specs.rules.Deeds.{setting_deed}
 use Rattle.bit_report.proofs.setting_deed.Goals as goal
 

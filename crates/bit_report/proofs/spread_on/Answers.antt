@@ -1,5 +1,4 @@
 -- `bit_report::spread_on` meets its contract: both ends are what the calls promise.
-use borrow.Author.Rules.{rules}
 use Prim.Native.Nat.{◌+◌, ◌*◌}
 use mathlib.Core.Path.{◌≡◌}
 use native.Mathlib.Omega.{arith}

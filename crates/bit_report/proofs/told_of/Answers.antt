@@ -1,5 +1,4 @@
 -- `bit_report::told_of` meets its contract: each part is what a call promises.
-use borrow.Author.Rules.{rules}
 use Rattle.bit_report.specs.rules.Parts.{told_of}
 use Rattle.bit_report.proofs.told_of.Goals as goal
 

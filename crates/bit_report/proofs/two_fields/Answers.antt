@@ -1,5 +1,4 @@
 -- `bit_report::two_fields` meets its contract: each bit and field is what a call promises.
-use borrow.Author.Rules.{rules}
 use Rattle.bit_report.specs.rules.Fields.{two_fields}
 use Rattle.bit_report.proofs.two_fields.Goals as goal
 

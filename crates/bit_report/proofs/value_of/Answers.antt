@@ -1,5 +1,4 @@
 -- `bit_report::value_of` meets its contract: the power of two has at most 33 bits, and what is left by it at most 32.
-use borrow.Author.Rules.{rules}
 use mathlib.Core.Path.{◌≡◌, ◌∙◌}
 use Prim.Native.Nat.{◌*◌, ◌%◌, ◌^◌}
 use native.Mathlib.Omega.{arith}
@@ -12,7 +11,6 @@ use Rattle.bit_report.proofs.value_of.Goals as goal
 module _ (c : goal.Start) where
   power : 1 * 2 ^ c.args.count % 2 ^ 64 ≡ 2 ^ c.args.count
   power = shl_exact 1 c.args.count 64 (lit< tt) (omega arith) ∙ one-mul (2 ^ c.args.count)
-
 
 pub nonzero_rem-result : goal.nonzero_rem-result
 nonzero_rem-result c = rw (power c) (pow_pos c.args.count)
