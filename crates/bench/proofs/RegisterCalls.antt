@@ -4,8 +4,7 @@ use mathlib.Core.Bool.{true, false, not}
 use mathlib.Core.List.{List, ◌++◌}
 use mathlib.Core.Path.{◌≡◌, sym, ap, ◌∙◌}
 use borrow.Author.Tests.{lt-ltb, le-ltb, eq-eqb, ne_eqb}
-use lib.ListN.{length, take, drop}
-use lib.Seq.{take-length}
+use lib.ListN.{length, drop}
 use Rattle.words.proofs.Choice.{chosen, passed}
 use Rattle.field_register.specs.rules.Refusals.{field_code}
 use Rattle.field_register.specs.declared.FoundLine.{FoundLine}
@@ -44,10 +43,6 @@ module _ (f : FoundLine) (room : List ℕ) where
   pub name_some : f.found ≡ true → record { value = f.line.since; room = f.line.name ++ drop 16 room } ≡ name_told f room
   unfolding name_told
   name_some e = sym (passed _ _ _ (ap not e))
-
--- a name of 16 bytes is copied whole
-pub copied_whole : (name room : List ℕ) → length name ≡ 16 → take (length name) name ++ drop (length name) room ≡ name ++ drop 16 room
-copied_whole name room e = rw (take-length name, e)
 
 module _ (made : Setting) (room : List ℕ) where
   pub command_none : (field_code made.refusal ≡ 0 → ⊥) → refused made.refusal room ≡ command_told made room

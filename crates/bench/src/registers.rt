@@ -46,7 +46,7 @@ fn put_name(room: &mut [u8], name: [u8; 16])
     ensures { room.new ≡ name ++ drop 16 room.old }
 {
     let letters = name;
-    bytes::copy(&letters, room);
+    room[..NAME_ROOM].copy_from_slice(&letters);
 }
 
 // Puts the name of a line that was found into the room, and gives its first release.

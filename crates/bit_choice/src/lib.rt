@@ -1,4 +1,4 @@
-// Words chosen for their bits to be watched (02, request 6): which lists of them are taken, and where each word lies in the lent memory.
+// Words chosen for their bits to be watched: which lists of them are taken, and where each word lies in the lent memory.
 #![tactic(auto)]
 
 ghost use Rattle.std.specs.Prelude.{◌≡◌, ◌-◌, ◌≤◌, length};

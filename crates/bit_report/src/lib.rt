@@ -1,4 +1,4 @@
-// What is told of the bits of chosen words (02, request 6): which command wrote each last, what that command is, and which fields of a release it writes.
+// What is told of the bits of chosen words: which command wrote each last, what that command is, and which fields of a release it writes.
 #![tactic(auto)]
 
 ghost use Rattle.std.specs.Prelude.{◌≡◌, ◌+◌, ◌-◌, ◌*◌, ◌/◌, ◌%◌, ◌^◌, ◌≤◌, ◌<◌, leb, ltb};

@@ -9,16 +9,16 @@ use borrow.Author.Tests.{lt-ltb, le-leb, ltb-true, eqb-true, ne_eqb, eq-eqb}
 use lib.Dec.{eqb, leb, ltb}
 use lib.ListN.{length, get_or, take, drop, length-append, length-drop, take-append-drop}
 use lib.Seq.{length-take-le, take-append_seam, drop-append_seam, drop-append-add, drop-drop, split_at}
-use Rattle.bytes.specs.Bytes.{index_after, index_of}
+use Rattle.words.specs.rules.Choice.{pick}
 use Rattle.words.proofs.Choice.{chosen, passed, by_test, both}
-use Rattle.field_lines.specs.rules.Pairs.{stands, closed_at, value_at}
+use Rattle.field_lines.specs.rules.Pairs.{index_of, stands, closed_at, value_at}
 use Rattle.field_lines.specs.rules.Text.{part, same}
 use Rattle.field_lines.specs.declared.Value.TheVariants.{From, Missing}
 use Rattle.field_lines.proofs.SameBytes.{same_equal, same_refl}
 
 -- the byte that was looked for stands where it was found
 found_there : (c : ℕ) (s : List ℕ) → index_of c s < length s → get_or s (index_of c s) 0 ≡ c
-unfolding index_of index_after
+unfolding index_of pick
 found_there c [] h = absurd (omega arith)
 found_there c (x ∷ s) h =
     by_test (eqb x c) (λ here. rw here (eqb-true x c here))
@@ -26,7 +26,7 @@ found_there c (x ∷ s) h =
 
 -- and is found behind bytes that are above it
 found_behind : (c : ℕ) (s rest : List ℕ) → ((i : ℕ) → i < length s → c < get_or s i 0) → index_of c (s ++ (c ∷ rest)) ≡ length s
-unfolding index_of index_after
+unfolding index_of pick
 found_behind c [] rest high = rw (eq-eqb c c refl)
 found_behind c (x ∷ s) rest high =
     rw (ne_eqb x c (λ e. omega (arith, high 0 (omega arith))))

@@ -27,7 +27,7 @@ use Rattle.field_lines.specs.declared.Value.{Value}
 use Rattle.field_lines.specs.declared.Value.TheVariants.{From, Missing}
 use Rattle.field_lines.proofs.Between.{within}
 use Rattle.field_laws.specs.claims.WellFormed.{written, IsName}
-use Rattle.field_laws.proofs.Addresses.{address_says, all_digits, is_address, makes_word}
+use Rattle.field_laws.proofs.Addresses.{address_says, all_digits, is-address, makes_word}
 use Rattle.field_laws.proofs.Decimals.{is-decimal, makes, only_written}
 use Rattle.field_laws.proofs.PairsRead.{PairAt, value_read, value_is}
 
@@ -125,7 +125,7 @@ module _ (text : List ℕ) (at : ℕ) where
       let to : ℕ = at + 7 + length address in (
         ap (word_in text) v.is
             ∙ ap (λ (s : List ℕ). number_pair (address_of s) to) v.is-part
-            ∙ ap (λ (m : Number). number_pair m to) (chosen _ _ _ (is_address address w small same) ∙ ap Is (makes_word address w small same)),
+            ∙ ap (λ (m : Number). number_pair m to) (chosen _ _ _ (is-address address w small same) ∙ ap Is (makes_word address w small same)),
         v.is_left,
       )
 

@@ -1,23 +1,37 @@
 -- Where the value of a pair lies. A key that lies past the text's end is not there, and a closing byte is looked for in what is left behind the key.
 use Prim.Native.Nat.{ℕ, ◌+◌, ◌≤◌, ◌<◌}
 use mathlib.Core.Bool.{Bool, true, false, ◌&&◌}
-use mathlib.Core.List.{List}
+use mathlib.Core.List.{List, ◌∷◌}
 use mathlib.Core.Path.{◌≡◌, sym, ap, ap₂, ◌∙◌}
+use native.Mathlib.Numerals.{add-one}
 use native.Mathlib.Omega.{arith}
-use borrow.Author.Tests.{lt-ltb, le-leb, leb-true, ltb-true}
+use borrow.Author.Tests.{lt-ltb, le-leb, leb-true, ltb-true, eq-eqb, ne_eqb}
 use lib.Dec.{ltb}
-use lib.ListN.{length, take, drop}
-use lib.Seq.{take-length}
-use Rattle.bytes.specs.Bytes.{slice, index_of}
+use lib.ListN.{length, get_or, take, drop, drop_of_length-le}
+use lib.Seq.{drop-cons}
+use Rattle.words.specs.rules.Choice.{pick}
 use Rattle.words.proofs.Choice.{chosen, passed, by_test, both, refuted}
 use Rattle.field_lines.specs.rules.Text.{same}
-use Rattle.field_lines.specs.rules.Pairs.{stands, closed_at, value_at}
+use Rattle.field_lines.specs.rules.Pairs.{index_of, stands, closed_at, value_at}
 use Rattle.field_lines.specs.declared.Value.TheVariants.{From, Missing}
 
--- what a search in the rest of the text finds is the closing byte
-pub closed_by : (text : List ℕ) (from close : ℕ) {r : ℕ} → r ≡ from + index_of close (slice from (length text) text) → r ≡ closed_at text from close
-unfolding slice closed_at
-closed_by text from close e = e ∙ rw (take-length text)
+-- where a search ends: at the text's end, at such a byte, or where it ends from one place further on
+module _ (text : List ℕ) (i byte : ℕ) where
+  pub closed_end : length text ≤ i → i ≡ closed_at text i byte
+  unfolding closed_at index_of
+  closed_end h = rw (drop_of_length-le text h) (omega arith)
+
+  module _ (h : i < length text) where
+    front : drop i text ≡ get_or text i 0 ∷ drop (i + 1) text
+    front = rw (add-one, drop-cons text i 0)
+
+    pub closed_here : get_or text i 0 ≡ byte → i ≡ closed_at text i byte
+    unfolding closed_at index_of pick
+    closed_here e = rw (front, eq-eqb _ _ e) (omega arith)
+
+    pub closed_next : (get_or text i 0 ≡ byte → ⊥) → closed_at text (i + 1) byte ≡ closed_at text i byte
+    unfolding closed_at index_of pick
+    closed_next differ = rw (front, ne_eqb _ _ differ) (omega arith)
 
 module _ (text : List ℕ) (at : ℕ) (key : List ℕ) where
   -- a key that stands in the text lies in it

@@ -3,7 +3,7 @@
 
 ghost use Rattle.std.specs.Prelude.{◌&&◌, ◌≡◌, ◌+◌, ◌≤◌, ◌<◌, ◌^◌, length};
 ghost use Rattle.field_lines.specs.rules.Text.{same as sameBytes, zero_leads, decimal_of, address_of, no_name, name_of};
-ghost use Rattle.field_lines.specs.rules.Pairs.{stands as keyStands, value_at, wrong as wrongPair, number_pair, decimal_pair, word_pair, field_pair};
+ghost use Rattle.field_lines.specs.rules.Pairs.{stands as keyStands, closed_at, value_at, wrong as wrongPair, number_pair, decimal_pair, word_pair, field_pair};
 ghost use Rattle.field_lines.specs.rules.Lines.{in_order, no_line, malformed as notParsed, parsed_if, line_at};
 ghost use Rattle.field_lines.specs.rules.Clashes.{lasts as lineLasts, in_force, has_bit, share_release, share_bit, clash as linesClash};
 
@@ -125,6 +125,20 @@ fn stands(text: &[u8], at: usize, key: &[u8]) -> bool
     same(&text[at..end], key)
 }
 
+// Where the first such byte stands from a place on; the text's end where there is none.
+pub fn find(text: &[u8], from: usize, byte: u8) -> usize
+    ensures { result ≡ closed_at text.now from byte }
+{
+    let mut i: usize = from;
+    while i < text.len() {
+        if text[i] == byte {
+            return i;
+        }
+        i += 1;
+    }
+    i
+}
+
 // Where the value of a pair lies: behind its key, up to the first closing byte.
 fn value_at(text: &[u8], at: usize, key: &[u8], close: u8) -> Value
     ensures { result ≡ value_at text.now at key.now close }
@@ -133,7 +147,7 @@ fn value_at(text: &[u8], at: usize, key: &[u8], close: u8) -> Value
         return Value::Missing;
     }
     let from = at + key.len();
-    let to = bytes::scan::find(text, from, text.len(), close);
+    let to = find(text, from, close);
     if to < text.len() {
         return Value::From(from, to);
     }

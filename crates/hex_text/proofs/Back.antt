@@ -10,7 +10,7 @@ use Rattle.words.specs.rules.Choice.{pick}
 use Rattle.words.proofs.Choice.{chosen, passed}
 use Rattle.words.proofs.Joins.{join_lt}
 use Rattle.words.proofs.Numbers.{byte_number}
-use Rattle.words.proofs.Ranges.{inside, below, above}
+use Rattle.words.proofs.Ranges.{inside, below}
 use Rattle.digits.specs.rules.Digits.{digit_value, is_digit, digit_of}
 use Rattle.digits.specs.rules.Numbers.{are_digits, number_of}
 use Rattle.digits.proofs.Digits.{number_value, capital_value, by_digit, by_value, value_small, known_digit, digit_number, digit_letter}

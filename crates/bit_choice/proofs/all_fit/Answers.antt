@@ -1,9 +1,6 @@
 -- `bit_choice::all_fit` meets its contract: the words that are left fit where all of them do.
-use Prim.Native.Nat.{◌-◌, ◌≤◌}
-use mathlib.Core.Path.{◌≡◌, sym, ◌∙◌}
-use borrow.Author.Tests.{not-true, not-false}
-use Rattle.bit_choice.specs.rules.Chosen.{addresses_from, all_fit}
-use Rattle.bit_choice.proofs.Choosing.{left, fit_start, fit_none, fit_not, fit_again, fit_on}
+use mathlib.Core.Path.{sym, ◌∙◌}
+use Rattle.bit_choice.proofs.Choosing.{fit_start, fit_none, fit_not, fit_again, fit_on}
 use borrow.Author.Rules.{rules}
 use Rattle.bit_choice.proofs.all_fit.Goals as goal
 

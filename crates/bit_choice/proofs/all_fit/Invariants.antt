@@ -1,10 +1,8 @@
 -- What each turn keeps.
 use Prim.Native.Nat.{◌-◌, ◌≤◌}
-use mathlib.Core.Path.{◌≡◌, sym, ◌∙◌}
-use borrow.Author.Tests.{not-true, not-false}
+use mathlib.Core.Path.{◌≡◌}
 use Rattle.bit_choice.specs.rules.Chosen.{addresses_from, all_fit}
-use Rattle.bit_choice.proofs.Choosing.{left, fit_start, fit_none, fit_not, fit_again, fit_on}
-use borrow.Author.Rules.{rules}
+use Rattle.bit_choice.proofs.Choosing.{left}
 use Rattle.bit_choice.proofs.all_fit.Given as goal
 
 abbrev pub invariant-loop-i : goal.invariant-loop-i

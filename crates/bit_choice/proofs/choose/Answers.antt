@@ -3,7 +3,6 @@ use mathlib.Core.Path.{sym, ◌∙◌}
 use Rattle.words.proofs.Choice.{chosen, passed}
 use Rattle.bit_choice.specs.rules.Chosen.{choice_of}
 use Rattle.bit_choice.proofs.Choosing.{few_chosen}
-use borrow.Author.Rules.{rules}
 use Rattle.bit_choice.proofs.choose.Goals as goal
 
 pub taken_of-requires : goal.taken_of-requires

@@ -1,8 +1,6 @@
 -- `bit_choice::comes_again` meets its contract: the address is among those that are left where it is among all from the index on.
-use Prim.Native.Nat.{◌-◌}
-use mathlib.Core.Path.{◌≡◌, ◌∙◌}
-use Rattle.bit_choice.specs.rules.Chosen.{among}
-use Rattle.bit_choice.proofs.Choosing.{left, among_none, among_here, among_on}
+use mathlib.Core.Path.{◌∙◌}
+use Rattle.bit_choice.proofs.Choosing.{among_none, among_here, among_on}
 use borrow.Author.Rules.{rules}
 use Rattle.bit_choice.proofs.comes_again.Goals as goal
 

@@ -1,9 +1,8 @@
 -- What each turn keeps.
 use Prim.Native.Nat.{◌-◌}
-use mathlib.Core.Path.{◌≡◌, ◌∙◌}
+use mathlib.Core.Path.{◌≡◌}
 use Rattle.bit_choice.specs.rules.Chosen.{among}
-use Rattle.bit_choice.proofs.Choosing.{left, among_none, among_here, among_on}
-use borrow.Author.Rules.{rules}
+use Rattle.bit_choice.proofs.Choosing.{left}
 use Rattle.bit_choice.proofs.comes_again.Given as goal
 
 abbrev pub invariant-loop-i : goal.invariant-loop-i

@@ -1,9 +1,5 @@
 -- `bit_choice::in_one_window` meets its contract: the windows that are left hold one that grants the word where all of them do.
-use Prim.Native.Nat.{◌-◌, ◌≤◌}
-use mathlib.Core.Path.{◌≡◌, sym, ◌∙◌}
-use lib.ListN.{drop}
-use Rattle.windows.specs.claims.Touching.{one_grants}
-use Rattle.windows.specs.declared.Right.TheVariants.{Set}
+use mathlib.Core.Path.{sym, ◌∙◌}
 use Rattle.bit_choice.proofs.Choosing.{one_none, one_here, one_on}
 use borrow.Author.Rules.{rules}
 use Rattle.bit_choice.proofs.in_one_window.Goals as goal

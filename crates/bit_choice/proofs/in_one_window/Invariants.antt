@@ -1,11 +1,9 @@
 -- What each turn keeps.
 use Prim.Native.Nat.{◌-◌, ◌≤◌}
-use mathlib.Core.Path.{◌≡◌, sym, ◌∙◌}
+use mathlib.Core.Path.{◌≡◌}
 use lib.ListN.{drop}
 use Rattle.windows.specs.claims.Touching.{one_grants}
 use Rattle.windows.specs.declared.Right.TheVariants.{Set}
-use Rattle.bit_choice.proofs.Choosing.{one_none, one_here, one_on}
-use borrow.Author.Rules.{rules}
 use Rattle.bit_choice.proofs.in_one_window.Given as goal
 
 abbrev pub invariant-loop-i : goal.invariant-loop-i

@@ -1,7 +1,6 @@
 -- `bit_choice::is_good` meets its contract: its tests are those of the definition, one after the other.
 use mathlib.Core.Path.{◌∙◌}
 use Rattle.bit_choice.proofs.Choosing.{not_whole, too_many, by_fit}
-use borrow.Author.Rules.{rules}
 use Rattle.bit_choice.proofs.is_good.Goals as goal
 
 pub returns-then-bytes-ne0 : goal.returns-then-bytes-ne0

@@ -1,7 +1,6 @@
 -- `bit_choice::may_be_chosen` meets its contract: an address that is aligned is judged by the windows.
 use mathlib.Core.Path.{◌∙◌}
 use Rattle.bit_choice.proofs.Choosing.{aligned, unaligned}
-use borrow.Author.Rules.{rules}
 use Rattle.bit_choice.proofs.may_be_chosen.Goals as goal
 
 pub returns-then-address-eq0 : goal.returns-then-address-eq0

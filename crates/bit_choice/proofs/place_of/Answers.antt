@@ -1,7 +1,6 @@
 -- `bit_choice::place_of` meets its contract: each arm is one case of where the word lies.
 use mathlib.Core.Path.{sym, ap, ◌∙◌}
 use Rattle.bit_choice.specs.rules.Chosen.{place_number, word_place}
-use borrow.Author.Rules.{rules}
 use Rattle.bit_choice.proofs.place_of.Goals as goal
 
 pub returns-in-At : goal.returns-in-At

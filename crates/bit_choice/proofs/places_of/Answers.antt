@@ -1,11 +1,6 @@
 -- `bit_choice::places_of` meets its contract: the places set so far, and those of the words that are left set after them, are the places of all.
-use Prim.Native.Nat.{◌-◌, ◌≤◌}
-use mathlib.Core.List.{map}
-use mathlib.Core.Path.{◌≡◌, ◌∙◌}
-use lib.ListN.{length}
-use lib.Seq.{sets}
-use Rattle.bit_choice.specs.rules.Chosen.{addresses_from, word_place, places_of}
-use Rattle.bit_choice.proofs.Choosing.{left, places_start, places_on, places_end}
+use mathlib.Core.Path.{◌∙◌}
+use Rattle.bit_choice.proofs.Choosing.{places_start, places_on, places_end}
 use borrow.Author.Rules.{rules}
 use Rattle.bit_choice.proofs.places_of.Goals as goal
 

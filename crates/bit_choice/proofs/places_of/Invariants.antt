@@ -1,12 +1,11 @@
 -- What each turn keeps.
 use Prim.Native.Nat.{◌-◌, ◌≤◌}
 use mathlib.Core.List.{map}
-use mathlib.Core.Path.{◌≡◌, ◌∙◌}
+use mathlib.Core.Path.{◌≡◌}
 use lib.ListN.{length}
 use lib.Seq.{sets}
 use Rattle.bit_choice.specs.rules.Chosen.{addresses_from, word_place, places_of}
-use Rattle.bit_choice.proofs.Choosing.{left, places_start, places_on, places_end}
-use borrow.Author.Rules.{rules}
+use Rattle.bit_choice.proofs.Choosing.{left}
 use Rattle.bit_choice.proofs.places_of.Given as goal
 
 abbrev pub invariant-loop-i : goal.invariant-loop-i

@@ -1,5 +1,4 @@
 -- `bit_choice::taken_of` meets its contract: the places are those of all its words.
-use borrow.Author.Rules.{rules}
 use Rattle.bit_choice.proofs.taken_of.Goals as goal
 
 pub returns : goal.returns

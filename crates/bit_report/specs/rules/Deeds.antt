@@ -3,7 +3,6 @@ use Rattle.std.specs.Prelude.{ℕ, ◌+◌, List}
 use Rattle.words.specs.rules.Bytes.{word_at}
 use Rattle.opcodes.specs.rules.Opcodes.{by_writing, looked_up}
 use Rattle.opcodes.specs.declared.Command.{Command}
-use Rattle.opcodes.specs.declared.Command.TheVariants as command
 use Rattle.opcodes.specs.declared.Dialect.TheVariants.{Am17xx}
 use Rattle.opcodes.specs.declared.Found.{Found}
 use Rattle.opcodes.specs.declared.Found.TheVariants.{Known, Retired, Unknown}

@@ -1,5 +1,4 @@
 -- `digits::digit` meets its contract: below 10 the fraction adds nothing, from there on it is one.
-use borrow.Author.Rules.{rules}
 use native.Mathlib.Omega.{arith}
 use Rattle.digits.proofs.Digits.{by_value}
 use Rattle.digits.proofs.digit.Goals as goal

@@ -1,5 +1,4 @@
 -- `digits::given` meets its contract: each way is one side of the choice; where 0x stands, two characters are there.
-use borrow.Author.Rules.{rules}
 use mathlib.Core.Path.{sym, ap, ◌∙◌}
 use native.Mathlib.Omega.{arith}
 use Rattle.words.proofs.Choice.{chosen, passed}

@@ -1,5 +1,4 @@
 -- `digits::is_marked` meets its contract: of two characters or more the first two decide, one after the other.
-use borrow.Author.Rules.{rules}
 use borrow.Author.Tests.{lt-ltb, le-ltb, eq-eqb, ne_eqb}
 use Rattle.digits.specs.rules.Numbers.{is_marked}
 use Rattle.digits.proofs.is_marked.Goals as goal

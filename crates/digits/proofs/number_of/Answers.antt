@@ -1,12 +1,10 @@
 -- `digits::number_of` meets its contract: the number of the digits so far leads with those that are left to the number of all.
-use mathlib.Core.Path.{◌≡◌, ◌∙◌}
-use Prim.Native.Nat.{◌-◌, ◌*◌, ◌≤◌}
+use mathlib.Core.Path.{◌∙◌}
+use Prim.Native.Nat.{◌*◌, ◌≤◌}
 use borrow.Author.Rules.{rules}
 use native.Mathlib.Omega.{arith}
 use native.Mathlib.Nat.{mul-le-mul}
-use lib.ListN.{length, drop}
-use Rattle.digits.specs.rules.Numbers.{number_up_to}
-use Rattle.digits.proofs.Reading.{read_behind, number_empty, number_begins, number_large, number_made, number_next, number_wrong}
+use Rattle.digits.proofs.Reading.{number_empty, number_begins, number_large, number_made, number_next, number_wrong}
 use Rattle.digits.proofs.number_of.Goals as goal
 
 pub returns-then-text-eq0 : goal.returns-then-text-eq0

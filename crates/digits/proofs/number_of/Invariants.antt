@@ -1,12 +1,9 @@
 -- What each turn keeps.
-use mathlib.Core.Path.{◌≡◌, ◌∙◌}
-use Prim.Native.Nat.{◌-◌, ◌*◌, ◌≤◌}
-use borrow.Author.Rules.{rules}
-use native.Mathlib.Omega.{arith}
-use native.Mathlib.Nat.{mul-le-mul}
+use mathlib.Core.Path.{◌≡◌}
+use Prim.Native.Nat.{◌-◌, ◌≤◌}
 use lib.ListN.{length, drop}
 use Rattle.digits.specs.rules.Numbers.{number_up_to}
-use Rattle.digits.proofs.Reading.{read_behind, number_empty, number_begins, number_large, number_made, number_next, number_wrong}
+use Rattle.digits.proofs.Reading.{read_behind}
 use Rattle.digits.proofs.number_of.Given as goal
 
 abbrev pub invariant-loop-i : goal.invariant-loop-i

@@ -1,4 +1,4 @@
--- The command that a register makes for a field does what it says on a loader (02, request 8): by one call in flash mode, by its five words sent, and by the
+-- The command that a register makes for a field does what it says on a loader: by one call in flash mode, by its five words sent, and by the
 -- units of these words on either line. What a loader may refuse it with is 7 where no set window is over the word, 25, and 14 in a session that has ended.
 use Rattle.std.specs.Prelude.{ℕ, ◌≤◌, true, false, ◌&&◌, List, [], ◌∷◌, ◌≡◌, eqb, length}
 use Rattle.windows.specs.rules.Window.{sum_of, place_of}

@@ -1,4 +1,4 @@
--- What a ward may rely on in a register that was read (02, request 8): each question has one answer, the two questions agree, and a command does what it says.
+-- What a ward may rely on in a register that was read: each question has one answer, the two questions agree, and a command does what it says.
 use Rattle.std.specs.Prelude.{ℕ, ◌^◌, ◌≤◌, ◌<◌, max, true, false, ◌&&◌, List, [], ◌∷◌, ◌≡◌, eqb, length, get_or}
 use Rattle.words.specs.rules.Bits.{within}
 use Rattle.words.specs.rules.Bytes.{byte}

@@ -1,4 +1,4 @@
--- A well-formed line as 02 fixes its form (request 8), written out from what it names. Every such line is read, and what is read is such a line; so is a text.
+-- A well-formed line, written out from what it names. Every such line is read, and what is read is such a line; so is a text.
 use Rattle.std.specs.Prelude.{ℕ, zero, suc, ◌+◌, ◌-◌, ◌/◌, ◌%◌, ◌^◌, ◌≤◌, ◌<◌, true, false, List, [], ◌∷◌, ◌++◌, map, ◌≡◌, ltb, length, get_or, drop, replicate}
 use Prim.Native.Char.{code}
 use Rattle.words.specs.rules.Choice.{pick}

@@ -1,7 +1,6 @@
 -- The six pairs of a line, each a key, a value and the byte that closes it: a space, and behind the last pair a line feed.
-use Rattle.std.specs.Prelude.{ℕ, ◌+◌, Bool, true, false, ◌&&◌, List, leb, ltb, length, take, drop}
+use Rattle.std.specs.Prelude.{ℕ, suc, ◌+◌, Bool, true, false, ◌&&◌, List, [], ◌∷◌, leb, ltb, eqb, length, take, drop}
 use Prim.Native.Char.{code}
-use Rattle.bytes.specs.Bytes.{index_of}
 use Rattle.words.specs.rules.Choice.{pick}
 use Rattle.digits.specs.declared.Number.{Number}
 use Rattle.digits.specs.declared.Number.TheVariants.{Is, Wrong}
@@ -14,6 +13,11 @@ use Rattle.field_lines.specs.declared.Value.TheVariants.{From, Missing}
 -- does a key stand at a place of the text?
 unfoldable pub stands : List ℕ → ℕ → List ℕ → Bool
 stands text at key = leb (at + length key) (length text) && same (take (length key) (drop at text)) key
+
+-- how many bytes stand before the first c; all of them where there is none
+unfoldable pub index_of : ℕ → List ℕ → ℕ
+index_of c [] = 0
+index_of c (b ∷ s) = pick (eqb b c) 0 (suc (index_of c s))
 
 -- where the first closing byte stands from a place on; the text's end where there is none
 unfoldable pub closed_at : List ℕ → ℕ → ℕ → ℕ

@@ -1,4 +1,4 @@
--- The refusals of the register and their numbers (02, request 8).
+-- The refusals of the register and their numbers.
 use Rattle.std.specs.Prelude.{ℕ}
 use Rattle.opcodes.specs.rules.Answers as opcodes
 use Rattle.opcodes.specs.declared.Refusal.TheVariants as refusal

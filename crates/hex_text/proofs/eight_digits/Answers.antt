@@ -1,5 +1,5 @@
 -- `hex_text::eight_digits` meets its contract: the number of four digits and of four more, one after the other.
-use Rattle.std.proofs.Common.{arith, rules}
+use Rattle.std.proofs.Common.{arith}
 use Rattle.hex_text.proofs.Texts.{word_parts}
 use Rattle.hex_text.proofs.eight_digits.Goals as goal
 

@@ -1,5 +1,5 @@
 -- `hex_text::four_digits` meets its contract: the number of two digits and of two more, one after the other.
-use Rattle.std.proofs.Common.{arith, rules}
+use Rattle.std.proofs.Common.{arith}
 use Rattle.hex_text.proofs.Texts.{word_parts}
 use Rattle.hex_text.proofs.four_digits.Goals as goal
 

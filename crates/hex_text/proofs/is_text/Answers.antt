@@ -1,5 +1,5 @@
 -- `hex_text::is_text` meets its contract: the text is digits where nothing strange was met so far and what is left is digits.
-use Rattle.std.proofs.Common.{◌≡◌, ℕ, ◌-◌, ◌<◌, ◌≤◌, ◌&&◌, eqb, List, length, get_or, drop, sym, refl, ap, ◌∙◌, add-one, arith, drop_of_length-le, drop-cons, rules}
+use Rattle.std.proofs.Common.{ℕ, ◌<◌, ◌≤◌, ◌&&◌, eqb, List, length, get_or, sym, refl, ap, ◌∙◌, add-one, arith, drop_of_length-le, drop-cons}
 use mathlib.Core.Bool.{and-true}
 use Rattle.digits.specs.rules.Numbers.{are_digits}
 use Rattle.hex_text.specs.rules.Text.{all_digits}

@@ -1,5 +1,5 @@
 -- `hex_text::outside` meets its contract: how far a character lies past the first, counted round the end, is below the count inside the range alone.
-use Rattle.std.proofs.Common.{◌≡◌, ◌<◌, false, sym, arith, rules}
+use Rattle.std.proofs.Common.{◌≡◌, ◌<◌, false, sym, arith}
 use native.Mathlib.Decide.{dec_lt}
 use Rattle.words.specs.rules.Bits.{within}
 use Rattle.words.proofs.Choice.{chosen, passed}

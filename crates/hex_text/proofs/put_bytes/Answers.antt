@@ -1,5 +1,4 @@
 -- `hex_text::put_bytes` meets its contract: four stores in a row are the four bytes.
-use Rattle.std.proofs.Common.{arith, length-set, rules}
 use native.Mathlib.Numerals.{towards_suc}
 use Rattle.hex_text.specs.rules.Digits.{bytes_of}
 use Rattle.hex_text.proofs.put_bytes.Goals as goal

@@ -1,5 +1,4 @@
 -- `hex_text::put_digits` meets its contract: eight stores in a row are the eight digits.
-use Rattle.std.proofs.Common.{arith, length-set, rules}
 use native.Mathlib.Numerals.{towards_suc}
 use Rattle.hex_text.specs.rules.Digits.{digits_of}
 use Rattle.hex_text.proofs.put_digits.Goals as goal

@@ -1,6 +1,6 @@
 -- `hex_text::read_words` meets its contract: after i turns the first i words are laid into the room, and the next one makes it i + 1.
-use Rattle.std.proofs.Common.{◌≡◌, ◌-◌, ◌/◌, ◌≤◌, length, refl, arith, rules}
-use Rattle.hex_text.specs.rules.Text.{each_word, read_word, image_of, laid}
+use Rattle.std.proofs.Common.{◌≡◌, ◌/◌, length, refl, arith}
+use Rattle.hex_text.specs.rules.Text.{each_word, image_of, laid}
 use Rattle.hex_text.proofs.Turning.{image_length, same_room_read, word_read}
 use Rattle.hex_text.proofs.read_words.Goals as goal
 

@@ -1,7 +1,6 @@
 -- What each turn keeps.
-use Rattle.std.proofs.Common.{◌≡◌, ◌-◌, ◌/◌, ◌≤◌, length, refl, arith, rules}
-use Rattle.hex_text.specs.rules.Text.{each_word, read_word, image_of, laid}
-use Rattle.hex_text.proofs.Turning.{image_length, same_room_read, word_read}
+use Rattle.std.proofs.Common.{◌≡◌, ◌-◌, ◌≤◌}
+use Rattle.hex_text.specs.rules.Text.{each_word, read_word, laid}
 use Rattle.hex_text.proofs.read_words.Given as goal
 
 abbrev pub invariant-loop-i : goal.invariant-loop-i

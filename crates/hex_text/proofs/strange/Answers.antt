@@ -1,5 +1,4 @@
 -- `hex_text::strange` meets its contract: a character outside all three ranges is no digit.
-use Rattle.std.proofs.Common.{rules}
 use Rattle.hex_text.proofs.Digits.{strange_by_ranges}
 use Rattle.hex_text.proofs.strange.Goals as goal
 

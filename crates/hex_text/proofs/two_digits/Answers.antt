@@ -1,5 +1,5 @@
 -- `hex_text::two_digits` meets its contract: the number of two digits, each of which is worth its value.
-use Rattle.std.proofs.Common.{◌+◌, sym, ◌∙◌, arith, rules}
+use Rattle.std.proofs.Common.{◌+◌, sym, ◌∙◌, arith}
 use Rattle.digits.proofs.Numbers.{digit_in}
 use Rattle.hex_text.proofs.Texts.{word_parts, one_digit}
 use Rattle.hex_text.proofs.two_digits.Goals as goal

@@ -1,8 +1,8 @@
 -- `hex_text::write_words` meets its contract: after i turns the first i words are laid into the room, and the next one makes it i + 1.
-use Rattle.std.proofs.Common.{◌≡◌, ◌-◌, ◌*◌, ◌/◌, ◌≤◌, length, refl, ◌∙◌, arith, rules}
+use Rattle.std.proofs.Common.{◌≡◌, ◌*◌, ◌/◌, length, refl, ◌∙◌, arith}
 use Rattle.words.specs.declared.Unit.TheVariants.{Four}
 use Rattle.words.proofs.Units.{unit_number}
-use Rattle.hex_text.specs.rules.Text.{each_word, written_word, text_of, laid}
+use Rattle.hex_text.specs.rules.Text.{each_word, text_of, laid}
 use Rattle.hex_text.proofs.Turning.{text_length, same_room_written, word_written}
 use Rattle.hex_text.proofs.write_words.Goals as goal
 

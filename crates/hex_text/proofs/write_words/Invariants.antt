@@ -1,9 +1,6 @@
 -- What each turn keeps.
-use Rattle.std.proofs.Common.{◌≡◌, ◌-◌, ◌*◌, ◌/◌, ◌≤◌, length, refl, ◌∙◌, arith, rules}
-use Rattle.words.specs.declared.Unit.TheVariants.{Four}
-use Rattle.words.proofs.Units.{unit_number}
-use Rattle.hex_text.specs.rules.Text.{each_word, written_word, text_of, laid}
-use Rattle.hex_text.proofs.Turning.{text_length, same_room_written, word_written}
+use Rattle.std.proofs.Common.{◌≡◌, ◌-◌, ◌≤◌}
+use Rattle.hex_text.specs.rules.Text.{each_word, written_word, laid}
 use Rattle.hex_text.proofs.write_words.Given as goal
 
 abbrev pub invariant-loop-i : goal.invariant-loop-i

@@ -1,5 +1,5 @@
 -- `hex_text::conversions::text_end` meets its contract: an empty file has no last character; else the last one is looked at.
-use Rattle.std.proofs.Common.{sym, rules, eq-eqb, ne_eqb}
+use Rattle.std.proofs.Common.{sym, eq-eqb, ne_eqb}
 use Rattle.words.proofs.Choice.{chosen, passed}
 use Rattle.hex_text.specs.rules.Conversions.{text_end}
 use Rattle.hex_text.proofs.Concluding.{empty_end}

@@ -1,5 +1,5 @@
 -- `hex_text::conversions::to_image` meets its contract: the answer is that of reading the file's text, and an accepted one has a byte for every two digits.
-use Rattle.std.proofs.Common.{sym, ap, ◌∙◌, arith, length-take-le, rules}
+use Rattle.std.proofs.Common.{sym, ap, ◌∙◌, arith, length-take-le}
 use Rattle.opcodes.specs.rules.Answers.{code_of}
 use Rattle.hex_text.proofs.Accepted.{image_fits}
 use Rattle.hex_text.specs.rules.Conversions.{text_end, text_of_file}
@@ -24,4 +24,4 @@ returns c =
     let none = sym c.code.ensures ∙ c.if-code-ne0.false in
     let size = length-take-le (text_end file) file (end_within file) in
     let fits = image_fits (text_of_file file) a.room.now (ap code_of (sym told.value) ∙ none) in
-    record { value = accepted _ _ told.value _ none (omega arith); part = is-part _ _ (omega (arith, c.room-1.given)); room_after = told.room_after }
+    record { value = accepted _ _ told.value _ none (omega arith); part = is-part _ _ (omega arith); room_after = told.room_after }

@@ -1,0 +1,50 @@
+-- `bench::bits_from` meets its contract: barred, nothing is touched; else it is the run, with the numbers cleared before it.
+use Prim.Native.Nat.{ℕ, ◌*◌, ◌^◌}
+use mathlib.Core.List.{List}
+use mathlib.Core.Path.{◌≡◌, refl, sym, ap, ◌∙◌}
+use lib.ListN.{length}
+use Rattle.windows.specs.rules.Window.{sum_of}
+use Rattle.opcodes.specs.rules.Answers.{code_of}
+use Rattle.opcodes.specs.declared.Refusal.{Refusal}
+use Rattle.bit_choice.specs.rules.Chosen.{chosen_places}
+use Rattle.flash_runs.specs.rules.Entries.{entries_from}
+use Rattle.bench_sessions.specs.rules.Numbers.{barred}
+use Rattle.bench.specs.rules.Runs.{reported}
+use Rattle.bench.proofs.BitRuns.{noted, from_barred, from_run}
+use Rattle.bench.proofs.RunOffsets.{ran_at}
+use borrow.Author.Rules.{rules}
+use Rattle.bench.proofs.bits_from.Goals as goal
+
+pub returns-then-code-ne0 : goal.returns-then-code-ne0
+returns-then-code-ne0 c =
+    let a = c.args in
+    let barred-by : c.bar-refusal.result
+    ≡ barred a.opened.refusal a.choice (length a.numbers.now) (length a.memory.now) (sum_of a.opened.session.windows) =
+    c.bar-refusal.ensures ∙ ap (barred _ _ _ _) c.sum.ensures in
+    noted
+    (from_barred a.opened a.choice a.memory.now a.numbers.now a.image.now
+    (λ e. c.if-code-ne0.true (c.code.ensures ∙ ap (λ (q : Refusal). code_of q) barred-by ∙ e)))
+    (c.refuse_run.ensures ∙ ap (λ (q : Refusal). code_of q * 2 ^ 56) barred-by, (refl, refl))
+
+pub report-requires : goal.report-requires
+report-requires c =
+    rw c.run_from-ran.ensures.called_value (ran_at _ _ _ c.requires)
+
+pub returns : goal.returns
+returns c =
+    let a = c.args in
+    let barred-by : c.bar-refusal.result
+    ≡ barred a.opened.refusal a.choice (length a.numbers.now) (length a.memory.now) (sum_of a.opened.session.windows) =
+    c.bar-refusal.ensures ∙ ap (barred _ _ _ _) c.sum.ensures in
+    let run = c.run_from-ran.ensures in
+    noted
+    (from_run a.opened a.choice a.memory.now a.numbers.now a.image.now
+    (sym (ap (λ (q : Refusal). code_of q) barred-by) ∙ sym c.code.ensures ∙ c.if-code-ne0.false)) (
+      c.report.ensures ∙ ap reported run.called_value,
+      (
+        run.memory_after,
+        run.numbers_after
+            ∙ ap (λ (numbers : List ℕ). entries_from (chosen_places a.choice.chosen) numbers a.opened a.memory.now a.image.now)
+            c.clear.ensures,
+      ),
+    )
