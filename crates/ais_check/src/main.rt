@@ -2,33 +2,34 @@
 #![tactic(auto)]
 
 use checking::Report;
-use libc::STDIN_FILENO;
 use opcodes::Dialect;
+use std::env::Env;
+use std::io;
 
-fn put_report(report: Report) {
+fn put_report(rt: &impl Print, report: Report) -> io::Result<()> {
     if report.entered {
-        ais_printing::put(b"outcome=entered\n");
+        ais_printing::put(rt, b"outcome=entered\n")?;
     } else {
-        ais_printing::put(b"outcome=refused\n");
+        ais_printing::put(rt, b"outcome=refused\n")?;
     }
-    ais_printing::put_number_line(b"code=", report.code as u64);
-    ais_printing::put_number_line(b"at=", report.at as u64);
-    ais_printing::put_word_line(b"entry=", report.entry);
-    ais_printing::put_word_line(b"crc=", report.crc);
-    ais_printing::put_number_line(b"retries=", report.retries as u64);
+    ais_printing::put_number_line(rt, b"code=", report.code as u64)?;
+    ais_printing::put_number_line(rt, b"at=", report.at as u64)?;
+    ais_printing::put_word_line(rt, b"entry=", report.entry)?;
+    ais_printing::put_word_line(rt, b"crc=", report.crc)?;
+    ais_printing::put_number_line(rt, b"retries=", report.retries as u64)
 }
 
 // The dialect that was asked for.
-fn asked() -> Dialect {
-    if os::arg_count() < 2 {
+fn asked(rt: &impl Env) -> Dialect {
+    if ais_arguments::count(rt) < 2 {
         return Dialect::Am17xx;
     }
     Dialect::Dm648
 }
 
 // One byte more than the longest image is room enough: what is longer is refused however long.
-fn main() {
+fn main(rt: HostRuntime) -> io::Result<()> {
     let mut room = [0u8; 65537];
-    let n = io::read_full(STDIN_FILENO, &mut room);
-    put_report(checking::check(asked(), &room[..n]));
+    let n = ais_reading::read_input(&rt, &mut room)?;
+    put_report(&rt, checking::check(asked(&rt), &room[..n]))
 }

@@ -5,19 +5,21 @@ mod cases;
 mod sessions;
 mod texts;
 
-fn main() {
-    cases::tables();
-    cases::short_scripts();
-    cases::misprints();
-    cases::totals();
-    cases::both_sections();
-    cases::covered_load();
-    cases::retired();
-    sessions::load();
-    sessions::ping();
-    sessions::retired();
-    sessions::table();
-    sessions::closing_totals();
-    texts::figures();
-    texts::magic_word();
+use std::io;
+
+fn main(rt: HostRuntime) -> io::Result<()> {
+    cases::tables(&rt)?;
+    cases::short_scripts(&rt)?;
+    cases::misprints(&rt)?;
+    cases::totals(&rt)?;
+    cases::both_sections(&rt)?;
+    cases::covered_load(&rt)?;
+    cases::retired(&rt)?;
+    sessions::load(&rt)?;
+    sessions::ping(&rt)?;
+    sessions::retired(&rt)?;
+    sessions::table(&rt)?;
+    sessions::closing_totals(&rt)?;
+    texts::figures(&rt)?;
+    texts::magic_word(&rt)
 }

@@ -2,24 +2,24 @@
 #![tactic(auto)]
 
 use ais_printing::say;
-use libc::STDIN_FILENO;
 use opcodes::Refusal;
+use std::io;
 
-fn put(text: &[u8]) {
-    ais_printing::put_or_say(text, b"the text can't be written to standard output\n");
+fn put(rt: &(impl Print + Eprint), text: &[u8]) -> io::Result<()> {
+    ais_printing::put_or_say(rt, text, "the text can't be written to standard output\n")
 }
 
 // One word more than the longest image is room enough: what is longer has no room, however long.
-fn main() {
+fn main(rt: HostRuntime) -> io::Result<()> {
     let mut image = [0u8; 65540];
-    let n = io::read_full(STDIN_FILENO, &mut image);
+    let n = ais_reading::read_input(&rt, &mut image)?;
     let mut text = [0u8; 131072];
     let converted = hex_text::conversions::to_text(&image[..n], &mut text);
     let refusal = converted.refusal;
     let length = converted.length;
     match refusal {
-        Refusal::None => put(&text[..length]),
-        Refusal::Length => say(b"refusal: 21, the image's length is no multiple of 4\n"),
-        _ => say(b"refusal: 23, the image is longer than 65,536 bytes\n"),
+        Refusal::None => put(&rt, &text[..length]),
+        Refusal::Length => say(&rt, "refusal: 21, the image's length is no multiple of 4\n"),
+        _ => say(&rt, "refusal: 23, the image is longer than 65,536 bytes\n"),
     }
 }

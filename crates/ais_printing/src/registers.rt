@@ -1,15 +1,18 @@
 // A register that is refused, in plain words: the line, the reason, and how the line begins.
 ghost use Rattle.std.specs.Prelude.{◌≤◌, length};
 
+use std::io;
+
 // Why a line of a register is refused: 26, else 27.
-fn put_reason(code: u8) {
-    crate::put_number(b" refusal=", code as u64);
+fn put_reason(rt: &impl Print, code: u8) -> io::Result<()> {
+    crate::put_number(rt, b" refusal=", code as u64)?;
     if code == 26 {
-        return crate::put(b" the line is malformed, or beyond the 200th\n");
+        return crate::put(rt, b" the line is malformed, or beyond the 200th\n");
     }
     crate::put(
+        rt,
         b" the line clashes with an earlier one: a release has both, and they share a name or a bit of one word\n",
-    );
+    )
 }
 
 // As much of a line as is shown.
@@ -37,7 +40,7 @@ fn shown_length(line: &[u8]) -> usize
 }
 
 // The front of a line.
-fn put_line(line: &[u8]) {
+fn put_line(rt: &impl Print, line: &[u8]) -> io::Result<()> {
     let n = shown_length(line);
     let mut room = [0u8; SHOWN];
     let mut i: usize = 0;
@@ -45,8 +48,8 @@ fn put_line(line: &[u8]) {
         room[i] = shown(line[i]);
         i += 1;
     }
-    crate::put(&room[..n]);
-    crate::put(b"\n");
+    crate::put(rt, &room[..n])?;
+    crate::put(rt, b"\n")
 }
 
 // Where a line of a text begins, counted from 1.
@@ -56,7 +59,7 @@ fn line_start(text: &[u8], number: usize) -> usize
     let mut at: usize = 0;
     let mut left = number;
     while 1 < left {
-        let end = bytes::scan::find(text, at, text.len(), b'\n');
+        let end = crate::find(text, at, b'\n');
         if end == text.len() {
             break;
         }
@@ -67,15 +70,15 @@ fn line_start(text: &[u8], number: usize) -> usize
 }
 
 // Shows a line of a text.
-fn show_line(text: &[u8], number: usize) {
+fn show_line(rt: &impl Print, text: &[u8], number: usize) -> io::Result<()> {
     let start = line_start(text, number);
-    let end = bytes::scan::find(text, start, text.len(), b'\n');
-    put_line(&text[start..end]);
+    let end = crate::find(text, start, b'\n');
+    put_line(rt, &text[start..end])
 }
 
 // Tells that the register of a text is refused, by its code and the line.
-pub fn put_refused(text: &[u8], code: u8, line: usize) {
-    crate::put_number(b"register=refused line=", line as u64);
-    put_reason(code);
-    show_line(text, line);
+pub fn put_refused(rt: &impl Print, text: &[u8], code: u8, line: usize) -> io::Result<()> {
+    crate::put_number(rt, b"register=refused line=", line as u64)?;
+    put_reason(rt, code)?;
+    show_line(rt, text, line)
 }

@@ -4,29 +4,31 @@
 ghost use Rattle.std.specs.Prelude.{◌≤◌, length};
 ghost use Rattle.io.specs.Counts.{IsPrefixLen};
 
-use libc::STDIN_FILENO;
+use std::fs::Files;
+use std::io::Read;
+use std::{fs, io, str};
 use survey::{Image, Outcome, Survey, SurveyLine, SurveyTotals};
 
-fn put_outcome(outcome: Outcome) {
+fn put_outcome(rt: &impl Print, outcome: Outcome) -> io::Result<()> {
     match outcome {
-        Outcome::Entered => ais_printing::put(b" outcome=entered"),
-        Outcome::Refused => ais_printing::put(b" outcome=refused"),
-        Outcome::Absent => ais_printing::put(b" outcome=absent"),
+        Outcome::Entered => ais_printing::put(rt, b" outcome=entered"),
+        Outcome::Refused => ais_printing::put(rt, b" outcome=refused"),
+        Outcome::Absent => ais_printing::put(rt, b" outcome=absent"),
     }
 }
 
-fn put_line(line: SurveyLine) {
+fn put_line(rt: &impl Print, line: SurveyLine) -> io::Result<()> {
     let outcome = line.outcome;
-    ais_printing::put_number(b"image=", line.image as u64);
-    put_outcome(outcome);
-    ais_printing::put_number(b" set=", line.set as u64);
-    ais_printing::put_number_line(b" differ=", line.differ as u64);
+    ais_printing::put_number(rt, b"image=", line.image as u64)?;
+    put_outcome(rt, outcome)?;
+    ais_printing::put_number(rt, b" set=", line.set as u64)?;
+    ais_printing::put_number_line(rt, b" differ=", line.differ as u64)
 }
 
-fn put_totals(totals: SurveyTotals) {
-    ais_printing::put_number(b"images=", totals.images as u64);
-    ais_printing::put_number(b" entered=", totals.entered as u64);
-    ais_printing::put_number_line(b" differ=", totals.differ as u64);
+fn put_totals(rt: &impl Print, totals: SurveyTotals) -> io::Result<()> {
+    ais_printing::put_number(rt, b"images=", totals.images as u64)?;
+    ais_printing::put_number(rt, b" entered=", totals.entered as u64)?;
+    ais_printing::put_number_line(rt, b" differ=", totals.differ as u64)
 }
 
 // Which byte of what was read of the list is next, and how many were read.
@@ -42,8 +44,8 @@ enum Next {
     End,
 }
 
-// The next byte of the list, out of what was read of it or by reading on.
-fn next_byte(list: &mut [u8], place: Place) -> Next {
+// The next byte of the list, out of what was read of it or by reading on. A read that fails ends the list.
+fn next_byte(input: &mut impl Read, list: &mut [u8], place: Place) -> Next {
     let at = place.at;
     let have = place.have;
     if at < have {
@@ -51,8 +53,9 @@ fn next_byte(list: &mut [u8], place: Place) -> Next {
             return Next::Byte(list[at], Place { at: at + 1, have });
         }
     }
-    let got = libc::read(STDIN_FILENO, list);
-    let more = io::count(got, list);
+    let Ok(more) = input.read(list) else {
+        return Next::End;
+    };
     if more == 0 {
         return Next::End;
     }
@@ -80,14 +83,14 @@ struct Found {
 }
 
 // Reads a line of the list: up to its line feed, or to the end of the list where something stands before it. No list has as many bytes as there are turns.
-fn read_name(list: &mut [u8], from: Place, name: &mut [u8]) -> Found
+fn read_name(input: &mut impl Read, list: &mut [u8], from: Place, name: &mut [u8]) -> Found
     ensures { IsPrefixLen result.kept name.new }
 {
     let mut place = from;
     let mut kept: usize = 0;
     let mut turns = u64::MAX;
     while turns > 0 {
-        let Next::Byte(byte, after) = next_byte(list, place) else {
+        let Next::Byte(byte, after) = next_byte(input, list, place) else {
             return Found {
                 another: kept > 0,
                 kept,
@@ -120,38 +123,30 @@ struct Contents {
 }
 
 // Reads a file, as far as the room goes. A folder is opened and can't be read.
-fn read_file(file: i32, room: &mut [u8]) -> Contents
+fn read_file(file: &mut impl Read, room: &mut [u8]) -> Contents
     ensures { IsPrefixLen result.have room.new }
 {
-    let mut have: usize = 0;
-    while have < room.len() {
-        let got = libc::read(file, &mut room[have..]);
-        if got < 0 {
-            return Contents {
-                readable: false,
-                have,
-            };
-        }
-        let more = io::count(got, &room[have..]);
-        if more == 0 {
-            break;
-        }
-        have += more;
-    }
-    Contents {
-        readable: true,
-        have,
+    match ais_reading::read_full(file, room) {
+        Ok(have) => Contents {
+            readable: true,
+            have,
+        },
+        Err(_) => Contents {
+            readable: false,
+            have: 0,
+        },
     }
 }
 
-// What a name's image comes to.
-fn image_named(name: &[u8], room: &mut [u8]) -> Image {
-    let file = os::open_read(name);
-    if file < 0 {
+// What a name's image comes to. One that is no text names no file.
+fn image_named(rt: &impl Files, name: &[u8], room: &mut [u8]) -> Image {
+    let Ok(path) = str::from_utf8(name) else {
         return Image::absent();
-    }
-    let contents = read_file(file, room);
-    libc::close(file);
+    };
+    let Ok(mut file) = fs::open(rt, path) else {
+        return Image::absent();
+    };
+    let contents = read_file(&mut file, room);
     if !contents.readable {
         return Image::absent();
     }
@@ -160,22 +155,23 @@ fn image_named(name: &[u8], room: &mut [u8]) -> Image {
 }
 
 // The room for a name is that of a path; the room for an image has one byte more than the longest, as what is longer is refused however long.
-fn main() {
+fn main(rt: HostRuntime) -> io::Result<()> {
+    let mut input = rt.reader();
     let mut list = [0u8; 4096];
     let mut name = [0u8; 4096];
     let mut room = [0u8; 65537];
     let mut place = Place { at: 0, have: 0 };
     let mut survey = Survey::begin();
     while !survey.is_full() {
-        let found = read_name(&mut list, place, &mut name);
+        let found = read_name(&mut input, &mut list, place, &mut name);
         if !found.another {
             break;
         }
         let kept = found.kept;
-        let image = image_named(&name[..kept], &mut room);
-        put_line(survey.line(image));
+        let image = image_named(&rt, &name[..kept], &mut room);
+        put_line(&rt, survey.line(image))?;
         survey = survey.including(image);
         place = found.place;
     }
-    put_totals(survey.totals());
+    put_totals(&rt, survey.totals())
 }

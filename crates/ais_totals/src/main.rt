@@ -6,6 +6,7 @@ use ais_transcripts::images;
 use ais_transcripts::runs::{Flip, Setting};
 use flash_session::{Called, Session};
 use opcodes::Dialect;
+use std::io;
 use windows::Window;
 
 // As 000's images are run.
@@ -21,35 +22,43 @@ fn at_table(limit: u8, one: Flip) -> Setting {
 }
 
 // Source 000's image with these totals at its close.
-fn table(case: &[u8], limit: u8, one: Flip, sections: u32, bytes: u32) {
+fn table(
+    rt: &impl Print,
+    case: &[u8],
+    limit: u8,
+    one: Flip,
+    sections: u32,
+    bytes: u32,
+) -> io::Result<()> {
     let mut image = [0u8; 148];
     images::put_table(&mut image);
     images::put_word(&mut image, 140, sections);
     images::put_word(&mut image, 144, bytes);
     let setting = at_table(limit, one);
-    ais_transcripts::runs::run_as(Dialect::Dm648, b"table-19", case, setting, &mut image);
+    ais_transcripts::runs::run_as(rt, Dialect::Dm648, b"table-19", case, setting, &mut image)
 }
 
 // Its own totals, also where a section is read again; then others, and none.
-fn tables() {
-    table(b"clean", 0, Flip::None, 2, 0x4C);
-    table(b"flip-s1-healed", 2, Flip::Bit(80, 0, 1), 2, 0x4C);
-    table(b"flip-s2-healed", 2, Flip::Bit(116, 31, 1), 2, 0x4C);
-    table(b"section-more", 0, Flip::None, 3, 0x4C);
-    table(b"section-less", 0, Flip::None, 1, 0x4C);
-    table(b"byte-more", 0, Flip::None, 2, 0x4D);
-    table(b"byte-less", 0, Flip::None, 2, 0x4B);
-    table(b"exchanged", 0, Flip::None, 0x4C, 2);
+fn tables(rt: &impl Print) -> io::Result<()> {
+    table(rt, b"clean", 0, Flip::None, 2, 0x4C)?;
+    table(rt, b"flip-s1-healed", 2, Flip::Bit(80, 0, 1), 2, 0x4C)?;
+    table(rt, b"flip-s2-healed", 2, Flip::Bit(116, 31, 1), 2, 0x4C)?;
+    table(rt, b"section-more", 0, Flip::None, 3, 0x4C)?;
+    table(rt, b"section-less", 0, Flip::None, 1, 0x4C)?;
+    table(rt, b"byte-more", 0, Flip::None, 2, 0x4D)?;
+    table(rt, b"byte-less", 0, Flip::None, 2, 0x4B)?;
+    table(rt, b"exchanged", 0, Flip::None, 0x4C, 2)?;
     let mut image = [0u8; 140];
     images::put_table(&mut image);
     let setting = at_table(0, Flip::None);
     ais_transcripts::runs::run_as(
+        rt,
         Dialect::Dm648,
         b"table-19",
         b"no-totals",
         setting,
         &mut image,
-    );
+    )
 }
 
 // A fill of all of a window of 64 KiB.
@@ -70,14 +79,14 @@ fn put_fills(image: &mut [u8]) {
 }
 
 // What the run ended with, and what it counted.
-fn show(last: Called) {
-    ais_transcripts::runs::show_end(last);
+fn show(rt: &impl Print, last: Called) -> io::Result<()> {
+    ais_transcripts::runs::show_end(rt, last)?;
     let totals = last.session.totals;
     let now = totals.now;
     let sections = now.sections;
     let bytes = now.bytes;
-    ais_printing::put_number_line(b"sections=", sections.0 as u64);
-    ais_printing::put_word_line(b"bytes=", bytes.0);
+    ais_printing::put_number_line(rt, b"sections=", sections.0 as u64)?;
+    ais_printing::put_word_line(rt, b"bytes=", bytes.0)
 }
 
 // A window of 64 KiB that grants everything.
@@ -96,7 +105,7 @@ fn wide_window() -> [Window; 8] {
 }
 
 // Each of 256 passes counts 2^24 bytes and marks them, so that the last fill of the last pass would take the bytes to 2^32.
-fn overflow() {
+fn overflow(rt: &impl Print) -> io::Result<()> {
     let mut image = [0u8; 5148];
     images::put_word(&mut image, 0, Session::MAGIC);
     put_fills(&mut image);
@@ -104,11 +113,11 @@ fn overflow() {
     images::put_words_at(&mut image, 5136, &SEEKING);
     let opened = Session::open(Dialect::Dm648, 1, wide_window(), &image, 255);
     let mut memory = [0u8; 65536];
-    ais_printing::put_text_line(b"image=", b"256-fills-of-64-KiB");
-    show(flash_runs::run_plain(opened, &mut memory, &image));
+    ais_printing::put_text_line(rt, b"image=", b"256-fills-of-64-KiB")?;
+    show(rt, flash_runs::run_plain(opened, &mut memory, &image))
 }
 
-fn main() {
-    tables();
-    overflow();
+fn main(rt: HostRuntime) -> io::Result<()> {
+    tables(&rt)?;
+    overflow(&rt)
 }

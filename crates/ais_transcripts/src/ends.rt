@@ -2,13 +2,15 @@
 ghost use Rattle.std.specs.Prelude.{◌≤◌};
 
 use crate::text;
+use std::io;
 
-pub fn show_outcome(kind: u8) {
+pub fn show_outcome(rt: &impl Print, kind: u8) -> io::Result<()> {
     if kind == 3 {
-        ais_printing::put(b"outcome=entered\n");
+        ais_printing::put(rt, b"outcome=entered\n")?;
     } else {
-        ais_printing::put(b"outcome=refused\n");
+        ais_printing::put(rt, b"outcome=refused\n")?;
     }
+    Ok(())
 }
 
 // 0 for equal bytes, else 1.
@@ -30,10 +32,17 @@ fn changed(memory: &[u8], background: u8) -> u64 {
 }
 
 // The rows that are shown, and how many bytes changed past them.
-pub fn show_memory(first: u32, background: u8, shown: usize, memory: &[u8]) {
+pub fn show_memory(
+    rt: &impl Print,
+    first: u32,
+    background: u8,
+    shown: usize,
+    memory: &[u8],
+) -> io::Result<()> {
     if shown <= memory.len() {
-        text::rows(first, &memory[0..shown]);
-        ais_printing::put_number_line(b"other=", changed(&memory[shown..], background));
-        ais_printing::put(b"\n");
+        text::rows(rt, first, &memory[0..shown])?;
+        ais_printing::put_number_line(rt, b"other=", changed(&memory[shown..], background))?;
+        ais_printing::put(rt, b"\n")?;
     }
+    Ok(())
 }

@@ -2,6 +2,7 @@
 use crate::ends;
 use flash_session::{Called, Session};
 use opcodes::{Dialect, Event};
+use std::io;
 use windows::Window;
 use words::Unit;
 
@@ -66,33 +67,46 @@ fn misread_both(image: &mut [u8], setting: Setting, retries: u8) {
 }
 
 // The checksum before a Request.
-fn show_request(session: Session, image: &[u8]) {
+fn show_request(rt: &impl Print, session: Session, image: &[u8]) -> io::Result<()> {
     let at = session.offset as usize;
     if words::word_at(image, at) == REQUEST {
-        ais_printing::put_number(b"request=", at as u64);
-        ais_printing::put_word_line(b" register=", session.checksum);
+        ais_printing::put_number(rt, b"request=", at as u64)?;
+        ais_printing::put_word_line(rt, b" register=", session.checksum)?;
     }
+    Ok(())
 }
 
 // One call, the image lent as it then reads.
-fn turn(setting: Setting, session: Session, memory: &mut [u8], image: &mut [u8]) -> Called {
+fn turn(
+    rt: &impl Print,
+    setting: Setting,
+    session: Session,
+    memory: &mut [u8],
+    image: &mut [u8],
+) -> io::Result<Called> {
     misread_both(image, setting, session.retries);
-    show_request(session, image);
+    show_request(rt, session, image)?;
     let called = flash::step(session, memory, image);
     misread_both(image, setting, session.retries);
-    called
+    Ok(called)
 }
 
 // Calls until the session is ended.
-fn play(setting: Setting, begun: Called, memory: &mut [u8], image: &mut [u8]) -> Called {
+fn play(
+    rt: &impl Print,
+    setting: Setting,
+    begun: Called,
+    memory: &mut [u8],
+    image: &mut [u8],
+) -> io::Result<Called> {
     let mut last = begun;
     let mut turns = TURNS;
     while turns > 0 && !last.session.ended {
         let session = last.session;
-        last = turn(setting, session, memory, image);
+        last = turn(rt, setting, session, memory, image)?;
         turns -= 1;
     }
-    last
+    Ok(last)
 }
 
 // A map of one window that grants everything.
@@ -126,73 +140,87 @@ fn opening(dialect: Dialect, setting: Setting, image: &[u8]) -> Called {
     }
 }
 
-fn show_flip(flipped: Flip) {
+fn show_flip(rt: &impl Print, flipped: Flip) -> io::Result<()> {
     match flipped {
         Flip::None => {}
         Flip::Bit(at, bit, heal) => {
-            ais_printing::put_number(b"flip=", at as u64);
-            ais_printing::put_number(b" bit=", bit as u64);
-            ais_printing::put_number_line(b" heal=", heal as u64);
+            ais_printing::put_number(rt, b"flip=", at as u64)?;
+            ais_printing::put_number(rt, b" bit=", bit as u64)?;
+            ais_printing::put_number_line(rt, b" heal=", heal as u64)?;
         }
     }
+    Ok(())
 }
 
-fn show_flips(setting: Setting) {
+fn show_flips(rt: &impl Print, setting: Setting) -> io::Result<()> {
     let one = setting.one;
     let two = setting.two;
     match one {
-        Flip::None => ais_printing::put(b"flip=none\n"),
+        Flip::None => ais_printing::put(rt, b"flip=none\n"),
         Flip::Bit(_, _, _) => {
-            show_flip(one);
-            show_flip(two);
+            show_flip(rt, one)?;
+            show_flip(rt, two)
         }
     }
 }
 
 // The six lines of 01's check program.
-pub fn show_end(last: Called) {
+pub fn show_end(rt: &impl Print, last: Called) -> io::Result<()> {
     let refusal = last.refusal;
     let event = last.event;
-    ends::show_outcome(event.kind());
-    ais_printing::put_number_line(b"code=", refusal.code() as u64);
-    ais_printing::put_number_line(b"at=", last.at as u64);
-    ais_printing::put_word_line(b"entry=", event.value());
-    ais_printing::put_word_line(b"crc=", last.session.checksum);
-    show_retries(last.session.retries);
+    ends::show_outcome(rt, event.kind())?;
+    ais_printing::put_number_line(rt, b"code=", refusal.code() as u64)?;
+    ais_printing::put_number_line(rt, b"at=", last.at as u64)?;
+    ais_printing::put_word_line(rt, b"entry=", event.value())?;
+    ais_printing::put_word_line(rt, b"crc=", last.session.checksum)?;
+    show_retries(rt, last.session.retries)
 }
 
 // The last of them.
-fn show_retries(retries: u8) {
-    ais_printing::put_number_line(b"retries=", retries as u64);
+fn show_retries(rt: &impl Print, retries: u8) -> io::Result<()> {
+    ais_printing::put_number_line(rt, b"retries=", retries as u64)
 }
 
 // Opens and calls, and shows requests, end and memory.
-fn run_in(dialect: Dialect, setting: Setting, memory: &mut [u8], image: &mut [u8]) {
+fn run_in(
+    rt: &impl Print,
+    dialect: Dialect,
+    setting: Setting,
+    memory: &mut [u8],
+    image: &mut [u8],
+) -> io::Result<()> {
     misread_both(image, setting, 0);
     let begun = opening(dialect, setting, image);
     misread_both(image, setting, 0);
-    let last = play(setting, begun, memory, image);
-    show_end(last);
-    ends::show_memory(setting.first, setting.background, setting.shown, memory);
+    let last = play(rt, setting, begun, memory, image)?;
+    show_end(rt, last)?;
+    ends::show_memory(rt, setting.first, setting.background, setting.shown, memory)
 }
 
 // One block of the transcript, as AM17xx.
-pub fn run(image_name: &[u8], case_name: &[u8], setting: Setting, image: &mut [u8]) {
-    run_as(Dialect::Am17xx, image_name, case_name, setting, image);
+pub fn run(
+    rt: &impl Print,
+    image_name: &[u8],
+    case_name: &[u8],
+    setting: Setting,
+    image: &mut [u8],
+) -> io::Result<()> {
+    run_as(rt, Dialect::Am17xx, image_name, case_name, setting, image)
 }
 
 // One block of the transcript, in a dialect.
 pub fn run_as(
+    rt: &impl Print,
     dialect: Dialect,
     image_name: &[u8],
     case_name: &[u8],
     setting: Setting,
     image: &mut [u8],
-) {
-    ais_printing::put_text_line(b"image=", image_name);
-    ais_printing::put_text_line(b"case=", case_name);
-    ais_printing::put_number_line(b"limit=", setting.limit as u64);
-    show_flips(setting);
+) -> io::Result<()> {
+    ais_printing::put_text_line(rt, b"image=", image_name)?;
+    ais_printing::put_text_line(rt, b"case=", case_name)?;
+    ais_printing::put_number_line(rt, b"limit=", setting.limit as u64)?;
+    show_flips(rt, setting)?;
     let mut memory = [setting.background; 4096];
-    run_in(dialect, setting, &mut memory, image);
+    run_in(rt, dialect, setting, &mut memory, image)
 }

@@ -2,27 +2,28 @@
 #![tactic(auto)]
 
 use ais_printing::say;
-use libc::STDIN_FILENO;
 use opcodes::Refusal;
+use std::io;
 
-fn put(image: &[u8]) {
-    ais_printing::put_or_say(image, b"the image can't be written to standard output\n");
+fn put(rt: &(impl Print + Eprint), image: &[u8]) -> io::Result<()> {
+    ais_printing::put_or_say(rt, image, "the image can't be written to standard output\n")
 }
 
 // One word more than the longest text is room enough: what is longer has no room, however long.
-fn main() {
+fn main(rt: HostRuntime) -> io::Result<()> {
     let mut text = [0u8; 131080];
-    let n = io::read_full(STDIN_FILENO, &mut text);
+    let n = ais_reading::read_input(&rt, &mut text)?;
     let mut image = [0u8; 65536];
     let converted = hex_text::conversions::to_image(&text[..n], &mut image);
     let refusal = converted.refusal;
     let length = converted.length;
     match refusal {
-        Refusal::None => put(&image[..length]),
-        Refusal::Length => say(b"refusal: 21, the text's length is no multiple of 8\n"),
+        Refusal::None => put(&rt, &image[..length]),
+        Refusal::Length => say(&rt, "refusal: 21, the text's length is no multiple of 8\n"),
         Refusal::Digit => say(
-            b"refusal: 22, the text has a character that is no hexadecimal digit\n",
+            &rt,
+            "refusal: 22, the text has a character that is no hexadecimal digit\n",
         ),
-        _ => say(b"refusal: 23, the text is longer than 131,072 digits\n"),
+        _ => say(&rt, "refusal: 23, the text is longer than 131,072 digits\n"),
     }
 }
