@@ -17,9 +17,9 @@ use Rattle.bench_sessions.proofs.feed_all.Goals as goal
 pub loop-i-init : goal.loop-i-init
 loop-i-init c =
     let bus = c.args.bus in
-    let short = c.requires.0.1 in
+    let short = c.requires.have_value.1 in
     let laid = c.put_reply-count.ensures.value in
-    let held : unit_room bus * c.args.session.line.have ≡ 0 = rw c.requires.0.0 (nothing_held bus) in (
+    let held : unit_room bus * c.args.session.line.have ≡ 0 = rw c.requires.have_value.0 (nothing_held bus) in (
       omega arith,
       c.units_in-n.ensures ∙ sym (units_count bus c.args.fed.now),
       refl,
@@ -37,7 +37,7 @@ put_reply-count-requires-in-loop-i c =
     let bus = c.args.bus in
     let units = length (units_fed bus c.args.fed.now) in
     let left = room_left bus loop.i units (omega (arith, loop.invariant.0, loop.invariant.1)) in
-    omega (arith, loop.invariant.3, loop.invariant.7, left, c.put_reply-count.auto, c.requires.1.1)
+    omega (arith, loop.invariant.3, loop.invariant.7, left, c.put_reply-count.auto, c.requires.fed_in_bounds)
 
 pub overflow_add-i : goal.overflow_add-i
 overflow_add-i c =
@@ -45,7 +45,7 @@ overflow_add-i c =
       arith,
       c.loop-i-test,
       c.loop-i.invariant.1,
-      c.requires.1.0,
+      c.requires.fed_len_bound,
     )
 
 pub loop-i-smaller : goal.loop-i-smaller
@@ -68,7 +68,7 @@ loop-i-preserved c =
     ≤ unit_room bus * loop.live.line.have + unit_room bus =
     rw answered (step_pays bus loop.live loop.memory (get_or units loop.i 0)) in
     let more = one_more bus loop.i in
-    let small = room_small bus (loop.i + 1) (omega (arith, inside, c.requires.1.0)) in (
+    let small = room_small bus (loop.i + 1) (omega (arith, inside, c.requires.fed_len_bound)) in (
       omega (arith, test),
       loop.invariant.1,
       omega (arith, step.auto, loop.invariant.2),
@@ -99,6 +99,6 @@ returns c =
     let laid = c.put_reply-count in
     let end : loop.i ≡ length units = omega (arith, c.loop-i-test, loop.invariant.0, loop.invariant.1) in
     delivers bus (take a.chosen a.places.now) a.room.now (record { session = a.session; memory = a.memory.now }) a.opening a.numbers.now
-    units c.requires.0.0 c.requires.0.1 c.requires.1.1 (record { session = loop.live; memory = loop.memory }) loop.room loop.count
+    units c.requires.have_value.0 c.requires.have_value.1 c.requires.fed_in_bounds (record { session = loop.live; memory = loop.memory }) loop.room loop.count
     loop.first
     loop.numbers loop.i end (loop.invariant.8 ∙ rw (laid.ensures.room_after, laid.ensures.value)) (omega arith)

@@ -40,7 +40,9 @@ returns-then-not-is_roomy c =
     (before_narrow a.bus a.opened _ _ _ opened lent narrow) (λ e. omega arith) c.refuse-then-not-is_roomy.ensures
 
 pub feed_all-requires : goal.feed_all-requires
-feed_all-requires c = let parts = (c.requires, has_room c.args.bus c.args.fed.now _ (sym c.is_roomy.ensures ∙ c.if-not-is_roomy.false)) in record { have_value = parts.0; fed_len_bound = parts.1; fed_in_bounds = parts.2 }
+feed_all-requires c =
+    let room = has_room c.args.bus c.args.fed.now _ (sym c.is_roomy.ensures ∙ c.if-not-is_roomy.false) in
+    record { have_value = c.requires; fed_len_bound = room.0; fed_in_bounds = room.1 }
 
 pub returns : goal.returns
 returns c =
