@@ -1,4 +1,5 @@
 -- `bench_hosts::layout::command_of` meets its contract: each arm is one number, and the last is all others.
+use native.Mathlib.Omega.{arith}
 use mathlib.Core.Path.{sym, ap}
 use Rattle.words.specs.rules.Choice.{pick}
 use Rattle.bench_hosts.specs.rules.HostBytes.{command_of}
@@ -43,6 +44,4 @@ returns-in-8 c = sym (ap command_of c.in-8.is)
 
 pub returns-in_default : goal.returns-in_default
 returns-in_default c =
-    let rest = c.in_default.rest in
-    other_command _ rest.0.0.0.0.0.0.0.0.1 rest.0.0.0.0.0.0.0.1 rest.0.0.0.0.0.0.1 rest.0.0.0.0.0.1 rest.0.0.0.0.1
-    rest.0.0.0.1 rest.0.0.1 rest.0.1 rest.1
+    other_command _ (omega arith) (omega arith) (omega arith) (omega arith) (omega arith) (omega arith) (omega arith) (omega arith) (omega arith)

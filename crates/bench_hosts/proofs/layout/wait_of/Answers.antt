@@ -1,4 +1,5 @@
 -- `bench_hosts::layout::wait_of` meets its contract: each arm is one number, and the last is all others.
+use native.Mathlib.Omega.{arith}
 use Prim.Native.Nat.{ℕ}
 use mathlib.Core.Path.{sym, ap}
 use Rattle.words.specs.rules.Choice.{pick}
@@ -36,6 +37,4 @@ returns-in-6 c = sym (ap (λ (n : ℕ). wait_of n c.args.command c.args.value) c
 
 pub returns-in_default : goal.returns-in_default
 returns-in_default c =
-    let rest = c.in_default.rest in
-    other_wait _ _ _ rest.0.0.0.0.0.0.1 rest.0.0.0.0.0.1 rest.0.0.0.0.1 rest.0.0.0.1
-    rest.0.0.1 rest.0.1 rest.1
+    other_wait _ _ _ (omega arith) (omega arith) (omega arith) (omega arith) (omega arith) (omega arith) (omega arith)
