@@ -1,5 +1,4 @@
 -- `bit_runs::ended_by` meets its contract: its code is the number of the answer's refusal.
-use borrow.Author.Rules.{rules}
 use Rattle.bit_runs.proofs.ended_by.Goals as goal
 
 pub returns : goal.returns

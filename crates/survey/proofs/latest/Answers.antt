@@ -1,5 +1,5 @@
 -- `survey::latest` meets its contract: its test is that of the definition.
-use Rattle.std.proofs.Common.{sym, ◌∙◌, rules}
+use Rattle.std.proofs.Common.{sym, ◌∙◌}
 use Rattle.words.proofs.Choice.{chosen, passed}
 use Rattle.survey.specs.rules.Survey.{latest}
 use Rattle.survey.proofs.latest.Goals as goal

@@ -1,5 +1,5 @@
 -- `survey::set_of` meets its contract: the language's count of ones is `ones`.
-use Rattle.std.proofs.Common.{sym, ◌∙◌, rules}
+use Rattle.std.proofs.Common.{sym, ◌∙◌}
 use Rattle.words.proofs.Choice.{chosen, passed}
 use Rattle.survey.specs.rules.Images.{set_of}
 use Rattle.survey.proofs.set_of.Goals as goal

@@ -1,5 +1,5 @@
 -- `survey::unlike` meets its contract: two tests in a row are the one test that both hold.
-use Rattle.std.proofs.Common.{sym, ◌∙◌, rules}
+use Rattle.std.proofs.Common.{sym, ◌∙◌}
 use Rattle.words.specs.rules.Choice.{pick}
 use Rattle.survey.specs.rules.Images.{unlike}
 use Rattle.survey.proofs.unlike.Goals as goal

@@ -1,7 +1,6 @@
 -- `survey::Image::of` meets its contract: the image is opened as the check program opens it, and run from cleared memory.
 use Rattle.checking.specs.rules.Report.{last_answer, report_of}
 use Rattle.survey.specs.rules.Images.{memory_left, image_of}
-use Rattle.std.proofs.Common.{rules}
 use Rattle.survey.proofs.Image.of.Goals as goal
 
 pub returns : goal.returns

@@ -1,5 +1,4 @@
 -- `survey::Survey::begin` meets its contract: nothing is written, and what stands before is absent.
-use Rattle.std.proofs.Common.{rules}
 use Rattle.survey.proofs.Survey.begin.Goals as goal
 
 pub returns : goal.returns

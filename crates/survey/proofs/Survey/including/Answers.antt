@@ -1,5 +1,4 @@
 -- `survey::Survey::including` meets its contract: each count grows by what a call promises.
-use Rattle.std.proofs.Common.{rules}
 use Rattle.survey.specs.rules.Survey.{including}
 use Rattle.survey.proofs.Survey.including.Goals as goal
 

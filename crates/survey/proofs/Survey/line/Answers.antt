@@ -1,5 +1,4 @@
 -- `survey::Survey::line` meets its contract: each part of the line is what a call promises.
-use Rattle.std.proofs.Common.{rules}
 use Rattle.survey.specs.rules.Survey.{line_of}
 use Rattle.survey.proofs.Survey.line.Goals as goal
 
