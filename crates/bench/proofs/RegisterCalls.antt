@@ -27,7 +27,8 @@ module _ (q : Reading) where
     unfolding questioned
     no_room h = sym (chosen _ _ _ (lt-ltb _ _ h))
 
-    pub text_refused : least ≤ length room → (field_code q.refusal ≡ 0 → ⊥) → record { value = read_value q; room = room } ≡ questioned least q room answer
+    pub text_refused : least ≤ length room → (field_code q.refusal ≡ 0 → ⊥)
+        → record { value = read_value q; room = room } ≡ questioned least q room answer
     unfolding questioned
     text_refused h never = sym (passed _ _ _ (le-ltb _ _ h) ∙ chosen _ _ _ (ap not (ne_eqb _ _ never)))
 

@@ -21,10 +21,12 @@ returns-then-code-ne0 c =
     let barred-by : c.bar-refusal.result
     ≡ barred a.opened.refusal a.choice (length a.numbers.now) (length a.memory.now) (sum_of a.opened.session.windows) =
     c.bar-refusal.ensures ∙ ap (barred _ _ _ _) c.sum.ensures in
+    let done =
     noted
     (from_barred a.opened a.choice a.memory.now a.numbers.now a.image.now
     (λ e. c.if-code-ne0.true (c.code.ensures ∙ ap (λ (q : Refusal). code_of q) barred-by ∙ e)))
-    (c.refuse_run.ensures ∙ ap (λ (q : Refusal). code_of q * 2 ^ 56) barred-by, (refl, refl))
+    (c.refuse_run.ensures ∙ ap (λ (q : Refusal). code_of q * 2 ^ 56) barred-by, (refl, refl)) in
+    record { value = done.0; memory_after = done.1.0; numbers_after = done.1.1 }
 
 pub report-requires : goal.report-requires
 report-requires c =
@@ -37,6 +39,7 @@ returns c =
     ≡ barred a.opened.refusal a.choice (length a.numbers.now) (length a.memory.now) (sum_of a.opened.session.windows) =
     c.bar-refusal.ensures ∙ ap (barred _ _ _ _) c.sum.ensures in
     let run = c.run_from-ran.ensures in
+    let done =
     noted
     (from_run a.opened a.choice a.memory.now a.numbers.now a.image.now
     (sym (ap (λ (q : Refusal). code_of q) barred-by) ∙ sym c.code.ensures ∙ c.if-code-ne0.false)) (
@@ -47,4 +50,5 @@ returns c =
             ∙ ap (λ (numbers : List ℕ). entries_from (chosen_places a.choice.chosen) numbers a.opened a.memory.now a.image.now)
             c.clear.ensures,
       ),
-    )
+    ) in
+    record { value = done.0; memory_after = done.1.0; numbers_after = done.1.1 }

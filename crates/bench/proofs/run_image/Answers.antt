@@ -19,7 +19,7 @@ returns-then-fetched c =
       from_place
           a.map.now 0,
     ) at c.run_plain-called.ensures in
-    record { value = c.report_fetched.ensures ∙ ap fetched_report led.0 ∙ sym (chosen _ _ _ c.if-fetched.true); memory_after = led.1 }
+    record { value = c.report_fetched.ensures ∙ ap fetched_report led.value ∙ sym (chosen _ _ _ c.if-fetched.true); memory_after = led.memory_after }
 
 pub report-requires : goal.report-requires
 report-requires c = rw (c.run_plain-called.ensures.value, c.open-opened.ensures)
@@ -36,4 +36,4 @@ returns c =
       from_place
           a.map.now 0,
     ) at c.run_plain-called.ensures in
-    record { value = c.report.ensures ∙ ap reported led.0 ∙ sym (passed _ _ _ c.if-fetched.false); memory_after = led.1 }
+    record { value = c.report.ensures ∙ ap reported led.value ∙ sym (passed _ _ _ c.if-fetched.false); memory_after = led.memory_after }

@@ -14,7 +14,8 @@ returns-then-command-lt-COMMAND_ROOM c =
     no_room (reading_of c.args.text.now) 20 c.args.command.now
     (command_told (command_for (reading_of c.args.text.now).register c.args.name.now c.args.release c.args.value)
     c.args.command.now)
-    c.if-command-lt-COMMAND_ROOM.true in record { value = c.refuse.ensures ∙ ap (λ (t : Told). t.value) short; command_after = ap (λ (t : Told). t.room) short }
+    c.if-command-lt-COMMAND_ROOM.true in
+    record { value = c.refuse.ensures ∙ ap (λ (t : Told). t.value) short; command_after = ap (λ (t : Told). t.room) short }
 
 pub read_value-requires : goal.read_value-requires
 read_value-requires c =
@@ -26,7 +27,11 @@ returns-then-code-ne0 c =
     text_refused (reading_of c.args.text.now) 20 c.args.command.now
     (command_told (command_for (reading_of c.args.text.now).register c.args.name.now c.args.release c.args.value)
     c.args.command.now)
-    c.if-command-lt-COMMAND_ROOM.false (λ e. c.if-code-ne0.true (c.code.ensures ∙ rw c.read-reading.ensures e)) in record { value = c.read_value.ensures ∙ rw c.read-reading.ensures (ap (λ (t : Told). t.value) bad); command_after = ap (λ (t : Told). t.room) bad }
+    c.if-command-lt-COMMAND_ROOM.false (λ e. c.if-code-ne0.true (c.code.ensures ∙ rw c.read-reading.ensures e)) in
+    record {
+      value = c.read_value.ensures ∙ rw c.read-reading.ensures (ap (λ (t : Told). t.value) bad);
+      command_after = ap (λ (t : Told). t.room) bad;
+    }
 
 pub returns : goal.returns
 returns c =
@@ -34,4 +39,8 @@ returns c =
     answered (reading_of c.args.text.now) 20 c.args.command.now
     (command_told (command_for (reading_of c.args.text.now).register c.args.name.now c.args.release c.args.value)
     c.args.command.now)
-    c.if-command-lt-COMMAND_ROOM.false (rw (← c.read-reading.ensures) (sym c.code.ensures ∙ c.if-code-ne0.false)) in record { value = (rw (c.command.ensures, c.read-reading.ensures) at c.tell_command.ensures.value) ∙ ap (λ (t : Told). t.value) good; command_after = (rw (c.command.ensures, c.read-reading.ensures) at c.tell_command.ensures.room_after) ∙ ap (λ (t : Told). t.room) good }
+    c.if-command-lt-COMMAND_ROOM.false (rw (← c.read-reading.ensures) (sym c.code.ensures ∙ c.if-code-ne0.false)) in
+    record {
+      value = (rw (c.command.ensures, c.read-reading.ensures) at c.tell_command.ensures.value) ∙ ap (λ (t : Told). t.value) good;
+      command_after = (rw (c.command.ensures, c.read-reading.ensures) at c.tell_command.ensures.room_after) ∙ ap (λ (t : Told). t.room) good;
+    }
