@@ -71,10 +71,10 @@ fn put_stretch(
     }
     put_releases(rt, from, stretch.last)?;
     if stretch.last == 0 {
-        return 0;
+        return Ok(0);
     }
     if stretch.last == 0xFFFF_FFFF {
-        return 0;
+        return Ok(0);
     }
     Ok(stretch.last + 1)
 }

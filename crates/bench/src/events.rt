@@ -4,8 +4,7 @@ ghost use Rattle.bench_sessions.specs.rules.Feeding.{outcome};
 ghost use Rattle.bench_events.specs.rules.Events.{flash_events, host_events};
 
 // One whole flash run in a dialect by number: its refusal, and the count of its events.
-#[unsafe(no_mangle)]
-pub extern "C" fn ais_flash_events(
+pub fn ais_flash_events(
     dialect: u8,
     map: &[u8],
     memory: &mut [u8],
@@ -20,8 +19,7 @@ pub extern "C" fn ais_flash_events(
 }
 
 // A whole exchange: the host's refusal, and the count of the loader's events.
-#[unsafe(no_mangle)]
-pub extern "C" fn ais_host_events(
+pub fn ais_host_events(
     line: u8,
     dialect: u8,
     map: &[u8],

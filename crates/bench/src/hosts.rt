@@ -3,8 +3,7 @@ ghost use Rattle.std.specs.Prelude.{◌≡◌};
 ghost use Rattle.bench_hosts.specs.rules.HostCalls.{leaving, host_opened, host_heard, host_turned, exchange_session};
 
 // Opens a host: 0 or the refusal.
-#[unsafe(no_mangle)]
-pub extern "C" fn ais_host_open(
+pub fn ais_host_open(
     host: &mut [u8],
     line: u8,
     dialect: u8,
@@ -19,24 +18,21 @@ pub extern "C" fn ais_host_open(
 }
 
 // A host hears a byte: 0 or the refusal.
-#[unsafe(no_mangle)]
-pub extern "C" fn ais_host_hear(host: &mut [u8], byte: u8) -> u8
+pub fn ais_host_hear(host: &mut [u8], byte: u8) -> u8
     ensures { leaving result host.new ≡ host_heard host.old byte }
 {
     bench_hosts::hear_host(host, byte)
 }
 
 // A host takes a turn: its refusal, whether it has ended, what goes out.
-#[unsafe(no_mangle)]
-pub extern "C" fn ais_host_turn(host: &mut [u8], image: &[u8]) -> u64
+pub fn ais_host_turn(host: &mut [u8], image: &[u8]) -> u64
     ensures { leaving result host.new ≡ host_turned host.old image.now }
 {
     bench_hosts::turn_host(host, image)
 }
 
 // A whole exchange: the host's refusal, its retries, the loader's refusal, the entry.
-#[unsafe(no_mangle)]
-pub extern "C" fn ais_host_session(
+pub fn ais_host_session(
     line: u8,
     dialect: u8,
     map: &[u8],

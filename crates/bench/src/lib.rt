@@ -80,8 +80,7 @@ fn run_image(
 }
 
 // One whole flash run of an unchanged image.
-#[unsafe(no_mangle)]
-pub extern "C" fn ais_flash_run(map: &[u8], memory: &mut [u8], image: &[u8], limit: u8) -> u64
+pub fn ais_flash_run(map: &[u8], memory: &mut [u8], image: &[u8], limit: u8) -> u64
     ensures value { result ≡ flash_value Dialect.Am17xx map.now memory.old image.now limit }
     ensures memory_after { memory.new ≡ flash_memory Dialect.Am17xx map.now memory.old image.now limit }
 {
@@ -89,8 +88,7 @@ pub extern "C" fn ais_flash_run(map: &[u8], memory: &mut [u8], image: &[u8], lim
 }
 
 // The same run, asked for the words that it fetched.
-#[unsafe(no_mangle)]
-pub extern "C" fn ais_flash_fetched(map: &[u8], memory: &mut [u8], image: &[u8], limit: u8) -> u64
+pub fn ais_flash_fetched(map: &[u8], memory: &mut [u8], image: &[u8], limit: u8) -> u64
     ensures value { result ≡ fetched_value Dialect.Am17xx map.now memory.old image.now limit }
     ensures memory_after { memory.new ≡ flash_memory Dialect.Am17xx map.now memory.old image.now limit }
 {
@@ -98,8 +96,7 @@ pub extern "C" fn ais_flash_fetched(map: &[u8], memory: &mut [u8], image: &[u8],
 }
 
 // One whole flash run of a DM648 image.
-#[unsafe(no_mangle)]
-pub extern "C" fn ais_dm648_run(map: &[u8], memory: &mut [u8], image: &[u8], limit: u8) -> u64
+pub fn ais_dm648_run(map: &[u8], memory: &mut [u8], image: &[u8], limit: u8) -> u64
     ensures value { result ≡ flash_value Dialect.Dm648 map.now memory.old image.now limit }
     ensures memory_after { memory.new ≡ flash_memory Dialect.Dm648 map.now memory.old image.now limit }
 {
@@ -107,8 +104,7 @@ pub extern "C" fn ais_dm648_run(map: &[u8], memory: &mut [u8], image: &[u8], lim
 }
 
 // One whole sent session on the line of bytes.
-#[unsafe(no_mangle)]
-pub extern "C" fn ais_sent_session(
+pub fn ais_sent_session(
     map: &[u8],
     memory: &mut [u8],
     fed: &[u8],
@@ -121,8 +117,7 @@ pub extern "C" fn ais_sent_session(
 }
 
 // One whole sent session on the line of halves, each lent as two bytes, the low one first.
-#[unsafe(no_mangle)]
-pub extern "C" fn ais_half_session(
+pub fn ais_half_session(
     map: &[u8],
     memory: &mut [u8],
     fed: &[u8],
@@ -135,8 +130,7 @@ pub extern "C" fn ais_half_session(
 }
 
 // One whole sent session of a DM648, on the line of a number: 0 bytes, 1 halves; any other is refused with 19 before anything else is judged.
-#[unsafe(no_mangle)]
-pub extern "C" fn ais_dm648_session(
+pub fn ais_dm648_session(
     line: u8,
     map: &[u8],
     memory: &mut [u8],
@@ -150,8 +144,7 @@ pub extern "C" fn ais_dm648_session(
 }
 
 // One whole sent session on a line and in a dialect by number, with the numbers of chosen words beside it.
-#[unsafe(no_mangle)]
-pub extern "C" fn ais_bits_session(
+pub fn ais_bits_session(
     line: u8,
     dialect: u8,
     map: &[u8],
@@ -220,8 +213,7 @@ fn bits_from(
 }
 
 // One whole flash run in a dialect by number, with the numbers of chosen words beside it.
-#[unsafe(no_mangle)]
-pub extern "C" fn ais_bits_run(
+pub fn ais_bits_run(
     dialect: u8,
     map: &[u8],
     chosen: &[u8],
@@ -251,8 +243,7 @@ pub extern "C" fn ais_bits_run(
 }
 
 // A text of hexadecimal digits read into an image: 0 or the refusal.
-#[unsafe(no_mangle)]
-pub extern "C" fn ais_hex_read(text: &[u8], image: &mut [u8]) -> u8
+pub fn ais_hex_read(text: &[u8], image: &mut [u8]) -> u8
     ensures value { result ≡ code_of (read_answer text.now image.old) }
     ensures image_after { image.new ≡ read_room text.now image.old }
 {
@@ -261,8 +252,7 @@ pub extern "C" fn ais_hex_read(text: &[u8], image: &mut [u8]) -> u8
 }
 
 // An image written out as text: 0 or the refusal.
-#[unsafe(no_mangle)]
-pub extern "C" fn ais_hex_write(image: &[u8], text: &mut [u8]) -> u8
+pub fn ais_hex_write(image: &[u8], text: &mut [u8]) -> u8
     ensures value { result ≡ code_of (write_answer image.now text.old) }
     ensures text_after { text.new ≡ write_room image.now text.old }
 {

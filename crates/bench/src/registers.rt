@@ -33,8 +33,7 @@ fn read_value(reading: Reading) -> u64
 }
 
 // Reads a text.
-#[unsafe(no_mangle)]
-pub extern "C" fn ais_register_read(text: &[u8]) -> u64
+pub fn ais_register_read(text: &[u8]) -> u64
     ensures { result ≡ read_value (reading_of text.now) }
 {
     read_value(field_register::read(text))
@@ -65,8 +64,7 @@ fn tell_name(found: FoundLine, room: &mut [u8]) -> u64
 }
 
 // Which field a bit of a word is in a release: its name, and since when.
-#[unsafe(no_mangle)]
-pub extern "C" fn ais_register_bit(
+pub fn ais_register_bit(
     text: &[u8],
     word: u32,
     bit: u32,
@@ -114,8 +112,7 @@ fn tell_command(made: Setting, room: &mut [u8]) -> u64
 }
 
 // A field, a release and a value as the words of the command that sets it.
-#[unsafe(no_mangle)]
-pub extern "C" fn ais_register_command(
+pub fn ais_register_command(
     text: &[u8],
     name: &[u8],
     release: u32,

@@ -1,5 +1,5 @@
 -- The room keeps its length while the front of the line goes into it.
-use Rattle.std.proofs.Common.{◌-◌, ◌≤◌, length, ◌≡◌, ℕ, ◌+◌, ◌*◌, ◌<◌}
+use Rattle.std.proofs.Common.{◌-◌, length, ◌≡◌}
 use Rattle.ais_printing.proofs.registers.put_line.Given as goal
 
 abbrev pub invariant-loop-i : goal.invariant-loop-i
