@@ -9,7 +9,7 @@ use native.Mathlib.Nat.{add-zero, zero-add, suc-ne-zero}
 use native.Mathlib.Omega.{arith}
 use lib.Dec.{ltb}
 use lib.ListN.{length, get_or, set, take, length-take}
-use lib.Seq.{get_or-take, take_all, ext_get_or}
+use lib.Seq.{get_or-take, ext_get_or}
 use borrow.Author.Tests.{lt-ltb, le-ltb}
 use Rattle.words.specs.rules.Bits.{within}
 use Rattle.words.specs.rules.Bytes.{byte, put}
@@ -177,12 +177,7 @@ word_kept entries index place w from to e f h =
     let none : 2 * (word_bits_below place (first_bit w + w.count) - word_bits_below place (first_bit w)) ≡ 0 = omega (arith, e, f, h) in
     sym (ap (λ (n : ℕ). put entries (64 * index + 2 * word_bits_below place (first_bit w)) n (λ i. byte w.number (i % 2))) none)
 
--- past the last place none is left to stamp
-pub all_words : (entries places : List ℕ) (w : Wrote) (i n : ℕ) → length places ≤ i → length places ≤ n
-    → stamped entries (take i places) w ≡ stamped entries (take n places) w
-all_words entries places w i n h l = ap (λ (ps : List ℕ). stamped entries ps w) (take_all i places h ∙ sym (take_all n places l))
-
--- nor past the end of the entries: a byte is told of the same by all lists that have its word
+-- past the end of the entries none is left to stamp: a byte is told of the same by all lists that have its word
 module _ (places : List ℕ) (w : Wrote) (n i j : ℕ) (h : n / 64 < i) (l : n / 64 < j) where
   same_told : is_told (take i places) w n ≡ is_told (take j places) w n
   same_told = go (dec_lt (n / 64) (length places))

@@ -15,7 +15,8 @@ use Rattle.opcodes.specs.declared.Event.{Event}
 use Rattle.opcodes.specs.declared.Event.TheVariants as event
 use Rattle.opcodes.specs.declared.Refusal.{Refusal}
 use Rattle.opcodes.specs.declared.Refusal.TheVariants as refusal
-use Rattle.commands.specs.rules.Commands.{judged_code, multiple, done_if, barred, load_judged, fill_judged, fill_done, setting_judged, setting_done, entry_judged}
+use Rattle.commands.specs.rules.Commands.{judged_code, multiple, done_if, barred, load_judged}
+use Rattle.commands.specs.rules.Commands.{fill_judged, fill_done, setting_judged, setting_done, entry_judged}
 use Rattle.commands.specs.rules.Commands.{close_done, target, sought_from}
 use Rattle.commands.proofs.Judging.{EachRefusal, Passes, load_passes, fill_passes, setting_passes, entry_passes}
 use Rattle.commands.specs.declared.Done.{Done}

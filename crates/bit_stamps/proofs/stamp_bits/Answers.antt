@@ -1,9 +1,7 @@
 -- `bit_stamps::stamp_bits` meets its contract: after i turns the first i entries are written, two bytes each.
-use mathlib.Core.Path.{◌≡◌}
 use borrow.Author.Rules.{rules}
 use native.Mathlib.Omega.{arith}
 use Rattle.words.specs.rules.Bytes.{put}
-use Rattle.words.proofs.Puts.{length_put}
 use Rattle.bit_stamps.proofs.Stamping.{two_more}
 use Rattle.bit_stamps.proofs.stamp_bits.Goals as goal
 
@@ -22,11 +20,3 @@ loop-i-preserved c = (
     c.byte_of-low.ensures,
   ) (two_more _ _ _ _),
 )
-
-pub shape_of-entries : goal.shape_of-entries
-shape_of-entries c = rw c.loop-i.invariant.1 (length_put _ _ _ _)
-
-pub returns : goal.returns
-returns c =
-    let all : c.loop-i.i ≡ c.args.count = omega arith in
-    rw (← all) c.loop-i.invariant.1

@@ -6,7 +6,6 @@ use Rattle.reading.specs.rules.Reading.{data_words}
 use Rattle.reading.proofs.Reading.{are_there}
 use Rattle.words.specs.rules.Bytes.{bytes_at}
 use lib.ListN.{take, drop}
-use native.Mathlib.Omega.{arith}
 use native.Mathlib.Nat.{add-sub_cancel_left}
 use mathlib.Core.Path.{◌≡◌, sym, ap, ◌∙◌}
 use mathlib.Core.List.{List}
@@ -31,7 +30,10 @@ returns-then-is_spent c =
     let there = sym c.has_data.ensures ∙ c.if-not-has_data.false in
     let spent = load_spent a.session a.memory.now a.image.now a.next a.address a.size a.place there
     (sym c.is_spent.ensures ∙ c.if-is_spent.true) in
-    record { value = c.halt-then-is_spent.ensures ∙ sym (ap (λ (o : CallOutcome). o.answer) spent); memory_after = sym (ap (λ (o : CallOutcome). o.memory) spent) }
+    record {
+      value = c.halt-then-is_spent.ensures ∙ sym (ap (λ (o : CallOutcome). o.answer) spent);
+      memory_after = sym (ap (λ (o : CallOutcome). o.memory) spent);
+    }
 
 pub slice_bounds-load-end : goal.slice_bounds-load-end
 slice_bounds-load-end c =
@@ -40,17 +42,6 @@ slice_bounds-load-end c =
     (sym c.has_data.ensures ∙ c.if-not-has_data.false) in
     search (rules, fits)
 
-pub load_answer-requires : goal.load_answer-requires
-load_answer-requires c =
-    let a = c.args in
-    let there = sym c.has_data.ensures
-    ∙ c.if-not-has_data.false in
-    omega (
-      arith,
-      are_there a.image.now a.next (data_words a.size) there,
-      c.requires,
-    )
-
 pub returns : goal.returns
 returns c =
     let a = c.args in
@@ -58,4 +49,8 @@ returns c =
     ∙ c.if-not-has_data.false in
     let whole = load_whole a.session a.memory.now a.image.now a.next a.address a.size a.place there
     (sym c.is_spent.ensures ∙ c.if-is_spent.false) in
-    let done = rw (part a.image.now a.next a.size) at c.load-checksum.ensures in record { value = rw (c.load_answer.ensures, done.value) (sym (ap (λ (o : CallOutcome). o.answer) whole)); memory_after = done.memory_after ∙ sym (ap (λ (o : CallOutcome). o.memory) whole) }
+    let done = rw (part a.image.now a.next a.size) at c.load-checksum.ensures in
+    record {
+      value = rw (c.load_answer.ensures, done.value) (sym (ap (λ (o : CallOutcome). o.answer) whole));
+      memory_after = done.memory_after ∙ sym (ap (λ (o : CallOutcome). o.memory) whole);
+    }
