@@ -1,5 +1,4 @@
 -- `host_commands::retry` meets its contract: each arm is one case of where the seek leads.
-use borrow.Author.Rules.{rules}
 use mathlib.Core.Path.{sym, ap, ◌∙◌}
 use Rattle.host_commands.specs.rules.Commands.{sought_as}
 use Rattle.host_commands.proofs.retry.Goals as goal

@@ -1,5 +1,4 @@
 -- `machine_answers::last_reply` meets its contract, by the dialect.
-use borrow.Author.Rules.{rules}
 use Rattle.machine_answers.proofs.last_reply.Goals as goal
 
 pub returns-in-Am17xx : goal.returns-in-Am17xx
