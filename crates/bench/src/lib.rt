@@ -104,12 +104,7 @@ pub fn ais_dm648_run(map: &[u8], memory: &mut [u8], image: &[u8], limit: u8) -> 
 }
 
 // One whole sent session on the line of bytes.
-pub fn ais_sent_session(
-    map: &[u8],
-    memory: &mut [u8],
-    fed: &[u8],
-    room: &mut [u8],
-) -> u64
+pub fn ais_sent_session(map: &[u8], memory: &mut [u8], fed: &[u8], room: &mut [u8]) -> u64
     ensures { outcome result memory.new room.new
         ≡ sent_session Bus.Bytes Dialect.Am17xx map.now memory.old fed.now room.old }
 {
@@ -117,12 +112,7 @@ pub fn ais_sent_session(
 }
 
 // One whole sent session on the line of halves, each lent as two bytes, the low one first.
-pub fn ais_half_session(
-    map: &[u8],
-    memory: &mut [u8],
-    fed: &[u8],
-    room: &mut [u8],
-) -> u64
+pub fn ais_half_session(map: &[u8], memory: &mut [u8], fed: &[u8], room: &mut [u8]) -> u64
     ensures { outcome result memory.new room.new
         ≡ sent_session Bus.Halves Dialect.Am17xx map.now memory.old fed.now room.old }
 {

@@ -64,13 +64,7 @@ fn tell_name(found: FoundLine, room: &mut [u8]) -> u64
 }
 
 // Which field a bit of a word is in a release: its name, and since when.
-pub fn ais_register_bit(
-    text: &[u8],
-    word: u32,
-    bit: u32,
-    release: u32,
-    name: &mut [u8],
-) -> u64
+pub fn ais_register_bit(text: &[u8], word: u32, bit: u32, release: u32, name: &mut [u8]) -> u64
     ensures value { result ≡ (bit_told text.now word bit release name.old).value }
     ensures name_after { name.new ≡ (bit_told text.now word bit release name.old).room }
 {

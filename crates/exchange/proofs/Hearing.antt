@@ -16,7 +16,7 @@ use Rattle.opcodes.specs.declared.Event.{Event}
 use Rattle.event_room.specs.rules.Room.{place_after, room_after}
 use Rattle.event_room.proofs.Writing.{length_after, place_joined, room_joined}
 use Rattle.sent.specs.rules.Bus.{start_unit, units_of, units_fed, halves_of}
-use Rattle.sent.specs.rules.Feeding.{heard, fed, answers, replied, events_heard, first_of}
+use Rattle.sent.specs.rules.Feeding.{fed, answers, replied, events_heard, first_of}
 use Rattle.sent.specs.rules.Line.{unit_step}
 use Rattle.sent.specs.declared.Answer.{Answer}
 use Rattle.sent.specs.declared.Bus.{Bus}

@@ -1,9 +1,7 @@
 -- How a command is met, by its role: a Sequential Read is passed over, of any other the opcode goes out.
 use Prim.Native.Nat.{ℕ}
-use mathlib.Core.List.{List, [], ◌∷◌}
+use mathlib.Core.List.{List}
 use mathlib.Core.Path.{◌≡◌, ◌∙◌}
-use denote.Enum.Declared.{tag_of}
-use types.Run.{OneOf}
 use Rattle.opcodes.specs.declared.Command.{Command}
 use Rattle.host_answers.specs.rules.Answers.{sending, enters, on_to}
 use Rattle.host.specs.rules.Turn.{met_to}
@@ -13,7 +11,6 @@ use Rattle.host_commands.specs.declared.Role.TheVariants.{Passed}
 use Rattle.host_answers.specs.declared.Sending.TheVariants.{Nothing}
 use Rattle.host_answers.specs.declared.Turned.{Turned}
 use Rattle.host_answers.specs.declared.Wait.TheVariants as wait
-use Rattle.host_commands.specs.contracts.Role as role
 use Rattle.host_commands.proofs.Roles.{choose, role_of, as_role, others}
 
 module _ (h : Host) (image : List ℕ) (k : Command) (end : ℕ) (r : Role) (known : r ≡ role_of k) where

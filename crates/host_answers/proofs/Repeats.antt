@@ -1,14 +1,11 @@
 -- What goes out again is what a wait sends on entering, but for an echo.
 use Prim.Native.Nat.{ℕ}
-use mathlib.Core.List.{List, [], ◌∷◌}
+use mathlib.Core.List.{List}
 use mathlib.Core.Path.{◌≡◌, refl}
-use denote.Enum.Declared.{tag_of}
-use types.Run.{OneOf, miss}
 use Rattle.host_answers.specs.rules.Sendings.{opens, repeats}
 use Rattle.host_answers.specs.declared.Host.{Host}
 use Rattle.host_answers.specs.declared.Wait.{Wait}
 use Rattle.host_answers.specs.declared.Wait.TheVariants.{Greeting, Start, Ping, Echo, Nothing, Opcode, Over, Closing}
-use Rattle.host_answers.specs.contracts.Wait as wait
 
 pub as_on_entering : (w : Wait) (h : Host) (image : List ℕ) → ((left : ℕ) → w ≡ Echo left → ⊥)
     → opens w h image ≡ repeats w h image

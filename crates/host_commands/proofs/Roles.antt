@@ -1,16 +1,13 @@
 -- A command by its role: a choice by the command is one by its role, and what an arm for all others tells.
 use Prim.Native.Nat.{ℕ}
-use mathlib.Core.List.{List, [], ◌∷◌}
+use mathlib.Core.List.{List}
 use mathlib.Core.Path.{◌≡◌, refl, sym, ap, ◌∙◌}
-use denote.Enum.Declared.{tag_of}
-use types.Run.{OneOf, miss}
 use Rattle.opcodes.specs.declared.Command.{Command}
 use Rattle.opcodes.specs.declared.Command.TheVariants.{Load, Fill, BootTable, Enable, Disable, Request, StartOver, JumpAndClose, Ping, SequentialRead}
 use Rattle.host_commands.specs.rules.Commands.{by_role, acknowledged_as}
 use Rattle.host_answers.specs.declared.Host.{Host}
 use Rattle.host_commands.specs.declared.Role.{Role}
 use Rattle.host_commands.specs.declared.Role.TheVariants.{Passed, Asks, Closes, Goes}
-use Rattle.host_commands.specs.contracts.Role as role
 
 -- a choice by a role
 abbrev pub choose : {A : Type 0} → Role → A → A → A → A → A

@@ -26,7 +26,6 @@ use Rattle.host_laws.specs.claims.Turns.{turns_of, HostEnds, turns_allowed, Runs
 use Rattle.host_answers.specs.declared.Host.{Host}
 use Rattle.host_answers.specs.declared.Opened.{Opened}
 use Rattle.host_answers.specs.declared.Turned.{Turned}
-use Rattle.host_answers.specs.declared.Wait.TheVariants as wait
 use Rattle.host_laws.proofs.OpeningLaws.{heard_ended, stays_ended}
 use Rattle.host_laws.proofs.OutLaws.{awaits_what_stands}
 use Rattle.host_laws.proofs.RefusalLaws.{keeps_settings}

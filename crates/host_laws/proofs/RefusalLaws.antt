@@ -28,7 +28,6 @@ use Rattle.host_answers.specs.declared.Host.{Host}
 use Rattle.host_answers.specs.declared.Sending.{Sending}
 use Rattle.host_answers.specs.declared.Turned.{Turned}
 use Rattle.host_answers.specs.declared.Wait.{Wait}
-use Rattle.host_answers.specs.declared.Wait.TheVariants as wait
 use Rattle.host_laws.proofs.TurnCases.{Looked, twenty, goes_on, goes, refuses, no_retry, no_seek, Way, over, another, looks, way}
 
 -- whatever a turn changes

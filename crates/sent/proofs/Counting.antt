@@ -11,24 +11,20 @@ use Rattle.words.proofs.Choice.{of_choice}
 use Rattle.windows.specs.rules.Window.{sum_of}
 use Rattle.opcodes.specs.declared.Dialect.{Dialect}
 use Rattle.opcodes.specs.declared.Dialect.TheVariants.{Am17xx}
-use Rattle.opcodes.specs.declared.Event.TheVariants as event
 use Rattle.opcodes.specs.declared.Refusal.{Refusal}
-use Rattle.opcodes.specs.declared.Refusal.TheVariants as refusal
 use Rattle.ledger.specs.claims.Agreement.{Zero}
 use Rattle.ledger.specs.rules.Totals.{at_opening, numbered_as}
 use Rattle.ledger.specs.declared.Totals.{Totals}
-use Rattle.ledger.proofs.Agreement.{stays_zero}
 use Rattle.sent.specs.rules.Bus.{units_in_word, start_unit, pushed}
 use Rattle.sent.specs.claims.Counting.{UnitsCount, with_totals, ButTotals}
 use Rattle.sent.specs.rules.Feeding.{State, totals, next, fed, answers}
 use Rattle.sent.specs.rules.Line as line
 use Rattle.sent.specs.rules.Line.{plainly, gathered, carried, is_start, unit_step}
 use Rattle.machine_answers.specs.rules.Answers.{WordOutcome}
-use Rattle.machine.specs.rules.Machine.{begun, word_step}
+use Rattle.machine.specs.rules.Machine.{word_step}
 use Rattle.sent.specs.declared.Bus.{Bus}
 use Rattle.machine_answers.specs.declared.Core.{Core}
 use Rattle.sent.specs.declared.Line.{Line}
-use Rattle.machine_answers.specs.declared.Phase.TheVariants as phase
 use Rattle.machine_answers.specs.declared.Reply.{Reply}
 use Rattle.sent.specs.declared.Session.{Session}
 use Rattle.machine.proofs.Every.{every_word}

@@ -2,7 +2,6 @@
 use Prim.Native.Nat.{min}
 use mathlib.Core.Path.{◌≡◌}
 use native.Mathlib.Omega.{arith}
-use borrow.Author.Rules.{rules}
 use Rattle.checksum.proofs.feed.Goals as goal
 
 pub returns-then-bytes-lt4 : goal.returns-then-bytes-lt4

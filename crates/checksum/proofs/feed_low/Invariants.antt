@@ -1,9 +1,6 @@
 -- What each turn keeps.
-use Prim.Native.Nat.{suc, ◌-◌, ◌≤◌}
+use Prim.Native.Nat.{◌≤◌}
 use mathlib.Core.Path.{◌≡◌}
-use native.Mathlib.Omega.{arith}
-use borrow.Author.Rules.{rules}
-use Rattle.words.specs.rules.Bits.{bit}
 use Rattle.checksum.specs.rules.Checksum.{fed}
 use Rattle.checksum.proofs.feed_low.Given as goal
 

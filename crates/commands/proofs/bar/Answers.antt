@@ -1,5 +1,5 @@
 -- `commands::bar` meets its contract: each arm is one case of the definition.
-use Rattle.std.proofs.Common.{sym, ap, ◌∙◌, rules}
+use Rattle.std.proofs.Common.{sym, ap, ◌∙◌}
 use Rattle.commands.specs.rules.Commands.{barred}
 use Rattle.commands.specs.declared.Judged.{Judged}
 use Rattle.commands.proofs.bar.Goals as goal

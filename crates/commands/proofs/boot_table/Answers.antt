@@ -1,5 +1,5 @@
 -- `commands::boot_table` meets its contract: each arm is one case of the two definitions; where the command is granted, the word's shape is found and set.
-use Rattle.std.proofs.Common.{sym, ap, ◌∙◌, rules}
+use Rattle.std.proofs.Common.{sym, ap, ◌∙◌}
 use Rattle.commands.specs.rules.Commands.{setting_done, setting_memory}
 use Rattle.commands.specs.declared.Judged.{Judged}
 use Rattle.commands.proofs.boot_table.Goals as goal

@@ -1,5 +1,5 @@
 -- `commands::feed_fill` meets its contract: the four words are fed one after the other while the checksum is on.
-use Rattle.std.proofs.Common.{sym, rules}
+use Rattle.std.proofs.Common.{sym}
 use Rattle.words.proofs.Choice.{chosen, passed}
 use Rattle.checksum.specs.rules.Checksum.{fed_words}
 use Rattle.commands.proofs.feed_fill.Goals as goal

@@ -1,5 +1,5 @@
 -- `commands::field_shape` meets its contract: its two tests are those of the definition.
-use Rattle.std.proofs.Common.{Bool, ◌&&◌, leb, sym, ap, ◌∙◌, ap₂, rules, le-leb}
+use Rattle.std.proofs.Common.{Bool, ◌&&◌, leb, sym, ap, ◌∙◌, ap₂, le-leb}
 use mathlib.Core.Bool.{and-false}
 use borrow.Author.Tests.{lt-leb}
 use Rattle.words.proofs.Choice.{chosen, passed}

@@ -1,5 +1,5 @@
 -- `commands::fill_range` meets its contract: each arm is one case of the two definitions.
-use Rattle.std.proofs.Common.{sym, ◌∙◌, ap₂, rules}
+use Rattle.std.proofs.Common.{sym, ◌∙◌, ap₂}
 use Rattle.commands.specs.rules.Commands.{memory_if, type_filled}
 use Rattle.commands.specs.declared.Judged.{Judged}
 use Rattle.commands.specs.declared.UnitType.{UnitType}

@@ -1,5 +1,5 @@
 -- `commands::judge_entry` meets its contract: the address is tested first, then each arm is one case of where it lies.
-use Rattle.std.proofs.Common.{sym, ap, ◌∙◌, rules}
+use Rattle.std.proofs.Common.{sym, ap, ◌∙◌}
 use Rattle.opcodes.specs.declared.Refusal.TheVariants.{Entry}
 use Rattle.commands.specs.rules.Commands.{placed}
 use Rattle.commands.proofs.Judging.{entry_unaligned, entry_placed}

@@ -1,5 +1,4 @@
 -- `commands::judge_fill` meets its contract: the type's unit is found, and judged.
-use Rattle.std.proofs.Common.{rules}
 use Rattle.commands.specs.rules.Commands.{fill_judged}
 use Rattle.commands.proofs.judge_fill.Goals as goal
 

@@ -1,5 +1,5 @@
 -- `commands::judge_load` meets its contract: a load is judged as a fill of bytes.
-use Rattle.std.proofs.Common.{◌∙◌, rules}
+use Rattle.std.proofs.Common.{◌∙◌}
 use Rattle.commands.proofs.Judging.{bytes_judged}
 use Rattle.commands.proofs.judge_load.Goals as goal
 

@@ -1,5 +1,5 @@
 -- `commands::judge_range` meets its contract: each arm is one case of where the range lies.
-use Rattle.std.proofs.Common.{sym, ap, ◌∙◌, rules}
+use Rattle.std.proofs.Common.{sym, ap, ◌∙◌}
 use Rattle.opcodes.specs.declared.Refusal.TheVariants.{Range}
 use Rattle.commands.specs.rules.Commands.{placed, range_judged}
 use Rattle.commands.proofs.judge_range.Goals as goal

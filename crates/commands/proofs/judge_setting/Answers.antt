@@ -1,5 +1,4 @@
 -- `commands::judge_setting` meets its contract: the word's shape is found, and judged.
-use Rattle.std.proofs.Common.{rules}
 use Rattle.commands.proofs.judge_setting.Goals as goal
 
 pub returns : goal.returns

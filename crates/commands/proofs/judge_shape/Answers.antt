@@ -1,5 +1,5 @@
 -- `commands::judge_shape` meets its contract: each arm is one case of the definition, and the test of the data is its own.
-use Rattle.std.proofs.Common.{sym, ap, ◌∙◌, rules}
+use Rattle.std.proofs.Common.{sym, ap, ◌∙◌}
 use Rattle.commands.specs.rules.Commands.{shape_judged}
 use Rattle.commands.specs.declared.Shape.{Shape}
 use Rattle.commands.proofs.Judging.{shape_too_wide, shape_fits, shape_whole}

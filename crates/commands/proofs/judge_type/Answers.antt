@@ -1,5 +1,5 @@
 -- `commands::judge_type` meets its contract: each arm is one case of the definition.
-use Rattle.std.proofs.Common.{sym, ap, ◌∙◌, rules}
+use Rattle.std.proofs.Common.{sym, ap, ◌∙◌}
 use Rattle.commands.specs.rules.Commands.{type_judged}
 use Rattle.commands.specs.declared.UnitType.{UnitType}
 use Rattle.commands.proofs.judge_type.Goals as goal

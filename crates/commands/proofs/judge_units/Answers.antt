@@ -1,5 +1,5 @@
 -- `commands::judge_units` meets its contract: its tests are those of the definition, in their order.
-use Rattle.std.proofs.Common.{sym, ◌∙◌, arith, rules}
+use Rattle.std.proofs.Common.{sym, ◌∙◌, arith}
 use Rattle.words.proofs.Units.{size_above}
 use Rattle.commands.proofs.Judging.{units_address, units_size, units_range}
 use Rattle.commands.proofs.judge_units.Goals as goal

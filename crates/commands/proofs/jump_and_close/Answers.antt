@@ -1,5 +1,4 @@
 -- `commands::jump_and_close` meets its contract: the answer is the definition's.
-use Rattle.std.proofs.Common.{rules}
 use Rattle.commands.specs.rules.Commands.{close_done}
 use Rattle.commands.proofs.jump_and_close.Goals as goal
 

@@ -1,5 +1,5 @@
 -- `commands::seek` meets its contract: the two wrapping sums lead to the target, and its tests are those of the definition.
-use Rattle.std.proofs.Common.{sym, rules}
+use Rattle.std.proofs.Common.{sym}
 use Rattle.commands.proofs.Seeking.{wrapped, astray_unaligned, astray_low, astray_ahead, led_back}
 use Rattle.commands.proofs.seek.Goals as goal
 

@@ -1,5 +1,5 @@
 -- `commands::set_shape` meets its contract: each arm is one case of the definition.
-use Rattle.std.proofs.Common.{sym, ap, ◌∙◌, rules}
+use Rattle.std.proofs.Common.{sym, ap, ◌∙◌}
 use Rattle.commands.specs.rules.Commands.{shape_set}
 use Rattle.commands.specs.declared.Shape.{Shape}
 use Rattle.commands.proofs.set_shape.Goals as goal

@@ -1,5 +1,5 @@
 -- `commands::shape_of` meets its contract: the top byte is tested first, then the type counts.
-use Rattle.std.proofs.Common.{sym, ◌∙◌, rules}
+use Rattle.std.proofs.Common.{sym, ◌∙◌}
 use Rattle.commands.proofs.Shapes.{shape_high, shape_typed}
 use Rattle.commands.proofs.shape_of.Goals as goal
 

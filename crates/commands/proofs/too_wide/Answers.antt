@@ -1,5 +1,5 @@
 -- `commands::too_wide` meets its contract: below 32 the shift loses no bit, and from 32 on no value reaches the power.
-use Rattle.std.proofs.Common.{sym, lt_of_lt_of_le, one-mul, arith, lit<, pow_mono, shl_exact, rules}
+use Rattle.std.proofs.Common.{sym, lt_of_lt_of_le, one-mul, arith, lit<, pow_mono, shl_exact}
 use borrow.Author.Tests.{lt-leb}
 use Rattle.commands.specs.rules.Commands.{too_wide}
 use Rattle.commands.proofs.too_wide.Goals as goal

@@ -1,5 +1,5 @@
 -- `commands::type_shape` meets its contract: each arm is one case of the definition, and the kind's test is its own.
-use Rattle.std.proofs.Common.{ℕ, sym, ap, ◌∙◌, ap₂, rules, le-leb}
+use Rattle.std.proofs.Common.{ℕ, sym, ap, ◌∙◌, ap₂, le-leb}
 use borrow.Author.Tests.{lt-leb}
 use Rattle.words.proofs.Choice.{chosen, passed}
 use Rattle.commands.specs.rules.Commands.{field_shape, type_shape}

@@ -1,5 +1,5 @@
 -- `commands::whole` meets its contract: a unit has at most four bytes.
-use Rattle.std.proofs.Common.{arith, rules}
+use Rattle.std.proofs.Common.{arith}
 use Rattle.words.proofs.Units.{size_within}
 use Rattle.commands.proofs.whole.Goals as goal
 

@@ -1,5 +1,4 @@
 -- `commands::wrote_setting` meets its contract: each arm is one case of the definition.
-use Rattle.std.proofs.Common.{rules}
 use Rattle.commands.proofs.wrote_setting.Goals as goal
 
 pub returns-in-Granted : goal.returns-in-Granted

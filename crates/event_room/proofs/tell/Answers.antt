@@ -1,5 +1,4 @@
 -- `event_room::tell` meets its contract: nothing to tell, no room for it, or its two words written one after the other.
-use borrow.Author.Rules.{rules}
 use mathlib.Core.Path.{sym, ◌∙◌}
 use native.Mathlib.Omega.{arith}
 use Rattle.event_room.proofs.Writing.{tells_nothing, tells_none, tells_one}

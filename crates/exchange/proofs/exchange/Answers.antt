@@ -1,11 +1,8 @@
 -- `exchange::exchange` meets its contract: from where the loop stands the talk leads to the same end, and each turn leaves fewer.
 use borrow.Author.Rules.{rules}
-use mathlib.Core.Path.{◌≡◌, refl, ◌∙◌}
-use lib.ListN.{length}
+use mathlib.Core.Path.{refl, ◌∙◌}
 use borrow.Author.Tests.{not-true, not-false}
-use Rattle.host_answers.specs.rules.Ends.{most_turns}
-use Rattle.exchange.specs.rules.Exchange.{Talk}
-use Rattle.exchange.proofs.Settling.{Reaches, goes, goes_less, ends, meets}
+use Rattle.exchange.proofs.Settling.{goes, goes_less, ends, meets}
 use Rattle.exchange.proofs.exchange.Goals as goal
 
 pub loop-live-init : goal.loop-live-init

@@ -1,11 +1,9 @@
 -- What each turn keeps.
-use borrow.Author.Rules.{rules}
-use mathlib.Core.Path.{◌≡◌, refl, ◌∙◌}
+use mathlib.Core.Path.{◌≡◌}
 use lib.ListN.{length}
-use borrow.Author.Tests.{not-true, not-false}
 use Rattle.host_answers.specs.rules.Ends.{most_turns}
 use Rattle.exchange.specs.rules.Exchange.{Talk}
-use Rattle.exchange.proofs.Settling.{Reaches, goes, goes_less, ends, meets}
+use Rattle.exchange.proofs.Settling.{Reaches}
 use Rattle.exchange.proofs.exchange.Given as goal
 
 abbrev pub invariant-loop-live : goal.invariant-loop-live

@@ -1,5 +1,4 @@
 -- `exchange::go_on` meets its contract: the turn, and what goes out of it.
-use borrow.Author.Rules.{rules}
 use Rattle.exchange.specs.rules.Standing.{standing_onward, memory_onward, room_onward}
 use Rattle.exchange.proofs.go_on.Goals as goal
 

@@ -1,5 +1,4 @@
 -- `exchange::meet` meets its contract: both are opened, and the greeting is heard.
-use borrow.Author.Rules.{rules}
 use Rattle.event_room.specs.rules.Room.{place_after}
 use Rattle.exchange.specs.rules.Standing.{last_after}
 use Rattle.exchange.proofs.meet.Goals as goal

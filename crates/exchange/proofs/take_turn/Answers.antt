@@ -1,5 +1,4 @@
 -- `exchange::take_turn` meets its contract: it is the definition, field by field.
-use borrow.Author.Rules.{rules}
 use Rattle.exchange.proofs.take_turn.Goals as goal
 
 pub returns : goal.returns

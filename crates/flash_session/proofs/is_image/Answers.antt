@@ -1,5 +1,4 @@
 -- `flash_session::is_image` meets its contract: the length is tested first, then compared.
-use borrow.Author.Rules.{rules}
 use mathlib.Core.Bool.{◌&&◌, Bool}
 use mathlib.Core.Path.{sym, ap, ◌∙◌}
 use lib.Dec.{eqb}

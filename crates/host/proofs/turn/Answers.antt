@@ -1,9 +1,7 @@
 -- `host::turn` meets its contract: 14 and 3 are tested in the definition's order, and what is left is the wait.
 use mathlib.Core.Bool.{not}
-use borrow.Author.Rules.{rules}
 use mathlib.Core.Path.{ap, sym, ◌∙◌}
 use lib.ListN.{length}
-use borrow.Author.Tests.{not-false}
 use Rattle.words.proofs.Choice.{chosen, passed}
 use Rattle.flash_session.proofs.Lengths.{image_small}
 use Rattle.host.specs.rules.Turn.{turned}

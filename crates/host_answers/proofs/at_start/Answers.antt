@@ -1,5 +1,4 @@
 -- `host_answers::at_start` meets its contract: it is the definition, field by field.
-use borrow.Author.Rules.{rules}
 use Rattle.host_answers.proofs.at_start.Goals as goal
 
 pub returns : goal.returns

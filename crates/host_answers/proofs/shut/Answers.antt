@@ -1,5 +1,4 @@
 -- `host_answers::shut` meets its contract: it is the definition.
-use borrow.Author.Rules.{rules}
 use Rattle.host_answers.proofs.shut.Goals as goal
 
 pub returns : goal.returns

@@ -1,5 +1,4 @@
 -- `host_commands::await_acknowledgement` meets its contract: each arm is one case of the command's role.
-use borrow.Author.Rules.{rules}
 use mathlib.Core.Path.{sym, ◌∙◌}
 use Rattle.host_commands.proofs.Roles.{acknowledged_by}
 use Rattle.host_commands.proofs.await_acknowledgement.Goals as goal

@@ -1,5 +1,4 @@
 -- `host_commands::close` meets its contract: each arm is one case of the dialect.
-use borrow.Author.Rules.{rules}
 use mathlib.Core.Path.{sym, ap, ◌∙◌}
 use Rattle.opcodes.specs.declared.Dialect.{Dialect}
 use Rattle.host_commands.specs.rules.Commands.{closing}

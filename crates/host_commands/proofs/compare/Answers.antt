@@ -1,5 +1,4 @@
 -- `host_commands::compare` meets its contract: a match, spent retries and the seek are tested in the definition's order.
-use borrow.Author.Rules.{rules}
 use mathlib.Core.Path.{sym, ◌∙◌}
 use borrow.Author.Tests.{le-leb, lt-leb, eq-eqb, ne_eqb}
 use Rattle.words.proofs.Choice.{chosen, passed}

@@ -1,5 +1,4 @@
 -- `host_commands::send_words` meets its contract: the part is tested as in the definition; where it is there its start is at most its end.
-use borrow.Author.Rules.{rules}
 use Prim.Native.Nat.{◌+◌}
 use mathlib.Core.Path.{sym, ◌∙◌}
 use native.Mathlib.Omega.{arith}

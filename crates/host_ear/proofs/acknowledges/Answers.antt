@@ -1,5 +1,4 @@
 -- `host_ear::acknowledges` meets its contract: an acknowledgement is one word.
-use borrow.Author.Rules.{rules}
 use Rattle.host_ear.proofs.acknowledges.Goals as goal
 
 pub returns : goal.returns

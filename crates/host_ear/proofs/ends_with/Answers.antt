@@ -1,5 +1,4 @@
 -- `host_ear::ends_with` meets its contract: its tests are those of the definition; the newest none of the bytes are 0.
-use borrow.Author.Rules.{rules}
 use Prim.Native.Nat.{ℕ, ◌/◌, ◌^◌}
 use mathlib.Core.Bool.{◌&&◌, Bool}
 use mathlib.Core.Path.{sym, ap, ◌∙◌, ◌≡◌}

@@ -1,5 +1,4 @@
 -- `host_ear::ends_with_checksum` meets its contract: its tests are those of the definition.
-use borrow.Author.Rules.{rules}
 use Prim.Native.Nat.{◌^◌, ◌%◌}
 use mathlib.Core.Bool.{◌&&◌, Bool}
 use mathlib.Core.Path.{sym, ap}

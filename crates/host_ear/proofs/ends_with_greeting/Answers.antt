@@ -1,5 +1,4 @@
 -- `host_ear::ends_with_greeting` meets its contract: the bytes of BOOTME make its number, and those of no reply make 0.
-use borrow.Author.Rules.{rules}
 use mathlib.Core.Path.{sym, ap, ◌∙◌}
 use Rattle.words.specs.rules.Bits.{join}
 use Rattle.words.specs.rules.Bytes.{number}

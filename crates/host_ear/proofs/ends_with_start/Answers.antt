@@ -1,5 +1,4 @@
 -- `host_ear::ends_with_start` meets its contract: the bytes of the unit that answers make it.
-use borrow.Author.Rules.{rules}
 use mathlib.Core.Path.{sym, ap, ◌∙◌}
 use Rattle.words.specs.rules.Bits.{join}
 use Rattle.words.specs.rules.Bytes.{byte, number}

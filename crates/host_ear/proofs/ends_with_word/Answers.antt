@@ -1,5 +1,4 @@
 -- `host_ear::ends_with_word` meets its contract: the bytes of a word make it again.
-use borrow.Author.Rules.{rules}
 use Prim.Native.Nat.{ℕ}
 use mathlib.Core.Bool.{◌&&◌}
 use mathlib.Core.Path.{sym, ap, ◌∙◌}

@@ -1,5 +1,4 @@
 -- `host_ear::hear` meets its contract: it is the definition, field by field.
-use borrow.Author.Rules.{rules}
 use Rattle.host_ear.specs.rules.Ear.{hearing}
 use Rattle.host_ear.proofs.hear.Goals as goal
 

@@ -10,7 +10,7 @@ use Rattle.host_ear.specs.rules.Ear.{newest}
 use Rattle.host.specs.rules.Turn.{turned}
 use Rattle.host_laws.specs.claims.Looks.{is_request, is_turn, right_answer}
 use Rattle.host_answers.specs.declared.Host.{Host}
-use Rattle.host_answers.specs.declared.Sending.TheVariants.{Nothing, Word}
+use Rattle.host_answers.specs.declared.Sending.TheVariants.{Word}
 use Rattle.host_answers.specs.declared.Turned.{Turned}
 use Rattle.host_answers.specs.declared.Wait.{Wait}
 use Rattle.host_answers.specs.declared.Wait.TheVariants as wait

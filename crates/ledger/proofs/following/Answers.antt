@@ -1,5 +1,5 @@
 -- `ledger::following` meets its contract, by its two tests.
-use Rattle.std.proofs.Common.{rules, eq-eqb, ne_eqb, le-leb}
+use Rattle.std.proofs.Common.{eq-eqb, ne_eqb, le-leb}
 use borrow.Author.Tests.{lt-leb}
 use Rattle.words.specs.rules.Choice.{pick}
 use Rattle.ledger.specs.rules.Totals.{following}

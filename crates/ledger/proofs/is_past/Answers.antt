@@ -1,5 +1,5 @@
 -- `ledger::is_past` meets its contract: the first test decides where it holds, else the second.
-use Rattle.std.proofs.Common.{rules, le-ltb, lt-ltb}
+use Rattle.std.proofs.Common.{le-ltb, lt-ltb}
 use Rattle.ledger.specs.rules.Totals.{is_past}
 use Rattle.ledger.proofs.is_past.Goals as goal
 

@@ -1,5 +1,4 @@
 -- `machine::advance` meets its contract: each arm is one side of the choice.
-use borrow.Author.Rules.{rules}
 use mathlib.Core.Path.{sym, ap, ◌∙◌}
 use borrow.Author.Tests.{eq-eqb, ne_eqb}
 use Rattle.words.proofs.Choice.{chosen, passed}

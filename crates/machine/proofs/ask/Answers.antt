@@ -1,5 +1,4 @@
 -- `machine::ask` meets its contract: it puts together what it calls.
-use borrow.Author.Rules.{rules}
 use Rattle.machine.proofs.ask.Goals as goal
 
 pub returns : goal.returns

@@ -1,5 +1,4 @@
 -- `machine::opcode_purpose` meets its contract: each arm is one case of what the table says.
-use borrow.Author.Rules.{rules}
 use mathlib.Core.Path.{sym, ap}
 use Rattle.machine.specs.rules.Purpose.{opcode_purpose}
 use Rattle.machine.proofs.opcode_purpose.Goals as goal

@@ -1,5 +1,4 @@
 -- `machine::purpose_of` meets its contract: each arm is one case of the phase.
-use borrow.Author.Rules.{rules}
 use mathlib.Core.Path.{sym, ap, ◌∙◌}
 use Rattle.machine.specs.rules.Purpose.{purpose_of}
 use Rattle.machine_answers.specs.declared.Phase.{Phase}

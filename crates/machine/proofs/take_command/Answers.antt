@@ -1,5 +1,4 @@
 -- `machine::take_command` meets its contract: an opcode begins the session and is acknowledged, another word is neither.
-use borrow.Author.Rules.{rules}
 use mathlib.Core.Path.{sym, ap, ◌∙◌}
 use Rattle.words.proofs.Choice.{chosen, passed}
 use Rattle.machine_answers.specs.rules.Answers.{WordOutcome}

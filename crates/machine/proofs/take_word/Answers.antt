@@ -1,5 +1,4 @@
 -- `machine::take_word` meets its contract: each arm is one case of what the word is for.
-use borrow.Author.Rules.{rules}
 use mathlib.Core.Path.{sym, ◌∙◌}
 use Rattle.machine.proofs.Cases.{served_answer, served_memory}
 use Rattle.machine.proofs.take_word.Goals as goal

@@ -1,5 +1,4 @@
 -- `machine_answers::enter` meets its contract: the refusal's number is 0 exactly where there is none.
-use borrow.Author.Rules.{rules}
 use mathlib.Core.Path.{sym, ◌∙◌}
 use borrow.Author.Tests.{eq-eqb, ne_eqb}
 use Rattle.words.proofs.Choice.{chosen, passed}

@@ -1,5 +1,4 @@
 -- `machine_answers::refuse` meets its contract: it puts together what it calls.
-use borrow.Author.Rules.{rules}
 use Rattle.machine_answers.proofs.refuse.Goals as goal
 
 pub returns : goal.returns

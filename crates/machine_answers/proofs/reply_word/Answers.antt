@@ -1,5 +1,4 @@
 -- `machine_answers::reply_word` meets its contract: each byte is the word's.
-use borrow.Author.Rules.{rules}
 use Rattle.machine_answers.specs.rules.Replies.{one_word}
 use Rattle.machine_answers.proofs.reply_word.Goals as goal
 

@@ -1,5 +1,4 @@
 -- `machine_answers::say` meets its contract: it is the definition, field by field, and writes nothing.
-use borrow.Author.Rules.{rules}
 use Rattle.machine_answers.proofs.say.Goals as goal
 
 pub returns : goal.returns

@@ -1,5 +1,4 @@
 -- `machine_commands::boot_table` meets its contract: the command is judged and done as the definition says.
-use borrow.Author.Rules.{rules}
 use Rattle.machine_commands.proofs.boot_table.Goals as goal
 
 pub returns : goal.returns

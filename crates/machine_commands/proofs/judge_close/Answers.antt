@@ -1,5 +1,4 @@
 -- `machine_commands::judge_close` meets its contract: it puts together what it calls.
-use borrow.Author.Rules.{rules}
 use Rattle.machine_commands.proofs.judge_close.Goals as goal
 
 pub returns : goal.returns

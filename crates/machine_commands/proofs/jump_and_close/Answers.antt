@@ -1,5 +1,4 @@
 -- `machine_commands::jump_and_close` meets its contract: the command is judged and done, and where it is granted the session is ended.
-use borrow.Author.Rules.{rules}
 use Rattle.machine_commands.proofs.jump_and_close.Goals as goal
 
 pub returns : goal.returns

@@ -1,5 +1,4 @@
 -- `machine_commands::perform` meets its contract: each arm is one case of the definition.
-use borrow.Author.Rules.{rules}
 use Prim.Native.Nat.{ℕ}
 use mathlib.Core.List.{List}
 use mathlib.Core.Path.{◌≡◌, sym, ap, ◌∙◌}

@@ -1,5 +1,4 @@
 -- `machine_commands::switch` meets its contract: it puts together what it calls.
-use borrow.Author.Rules.{rules}
 use Rattle.machine_commands.proofs.switch.Goals as goal
 
 pub returns : goal.returns

@@ -1,5 +1,4 @@
 -- `machine_loads::begin_load` meets its contract: each arm is one case of the judgement, 18 and 25 among it; a range that is granted ends inside the memory.
-use borrow.Author.Rules.{rules}
 use mathlib.Core.Path.{sym, ap, ◌∙◌}
 use Rattle.commands.specs.declared.Judged.{Judged}
 use Rattle.commands.proofs.Judging.{granted_before}

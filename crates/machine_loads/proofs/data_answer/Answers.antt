@@ -1,5 +1,4 @@
 -- `machine_loads::data_answer` meets its contract: it puts together what it calls.
-use borrow.Author.Rules.{rules}
 use Rattle.machine_loads.proofs.data_answer.Goals as goal
 
 pub returns : goal.returns

@@ -1,5 +1,4 @@
 -- `machine_loads::feed_data` meets its contract: its test is the definition's.
-use borrow.Author.Rules.{rules}
 use mathlib.Core.Path.{sym, ◌∙◌}
 use Rattle.words.proofs.Choice.{chosen, passed}
 use Rattle.machine_loads.proofs.feed_data.Goals as goal

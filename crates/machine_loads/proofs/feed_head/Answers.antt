@@ -1,5 +1,4 @@
 -- `machine_loads::feed_head` meets its contract: the two words are fed one after the other.
-use borrow.Author.Rules.{rules}
 use mathlib.Core.Path.{sym}
 use Rattle.words.proofs.Choice.{chosen, passed}
 use Rattle.checksum.specs.rules.Checksum.{fed_words}

@@ -1,9 +1,9 @@
 -- `machine_loads::put_data` meets its contract: after i turns the first i bytes are written; a place past the end takes none.
 use borrow.Author.Rules.{rules}
-use Prim.Native.Nat.{◌-◌, ◌≤◌, ◌<◌, min}
+use Prim.Native.Nat.{◌<◌, min}
 use mathlib.Core.Path.{◌≡◌, sym}
 use native.Mathlib.Omega.{arith}
-use lib.ListN.{length, get_or}
+use lib.ListN.{length}
 use Rattle.words.specs.rules.Bytes.{put}
 use Rattle.words.proofs.Puts.{length_put, put_more, put_past}
 use Rattle.stores.specs.rules.Stores.{loaded}

@@ -1,14 +1,9 @@
 -- What each turn keeps.
-use borrow.Author.Rules.{rules}
-use Prim.Native.Nat.{◌-◌, ◌≤◌, ◌<◌, min}
-use mathlib.Core.Path.{◌≡◌, sym}
-use native.Mathlib.Omega.{arith}
-use lib.ListN.{length, get_or}
+use Prim.Native.Nat.{◌-◌, ◌≤◌}
+use mathlib.Core.Path.{◌≡◌}
+use lib.ListN.{get_or}
 use Rattle.words.specs.rules.Bytes.{put}
-use Rattle.words.proofs.Puts.{length_put, put_more, put_past}
-use Rattle.stores.specs.rules.Stores.{loaded}
 use Rattle.machine_loads.specs.rules.Loads.{data_bytes}
-use Rattle.machine_loads.proofs.Laws.{data_byte, data_length}
 use Rattle.machine_loads.proofs.put_data.Given as goal
 
 abbrev pub invariant-loop-i : goal.invariant-loop-i

@@ -1,5 +1,4 @@
 -- `machine_loads::take_data` meets its contract: its bytes are put at their place, and the answer is told.
-use borrow.Author.Rules.{rules}
 use Rattle.machine_loads.proofs.take_data.Goals as goal
 
 pub returns : goal.returns

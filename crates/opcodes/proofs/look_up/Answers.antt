@@ -1,5 +1,5 @@
 -- `opcodes::look_up` meets its contract: an opcode that is not retired is found in the rows, and what was found is what the rows from the place on answer.
-use Prim.Native.Nat.{ℕ, ◌+◌, ◌-◌, ◌≤◌}
+use Prim.Native.Nat.{ℕ, ◌+◌, ◌-◌}
 use mathlib.Core.Path.{◌≡◌, sym, ap, ◌∙◌}
 use lib.ListN.{drop}
 use Rattle.words.specs.rules.Choice.{pick}

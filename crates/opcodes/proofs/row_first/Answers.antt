@@ -1,5 +1,4 @@
 -- `opcodes::row_first` meets its contract: it asks whether the row serves.
-use borrow.Author.Rules.{rules}
 use mathlib.Core.Path.{sym, ◌∙◌}
 use Rattle.words.proofs.Choice.{chosen, passed}
 use Rattle.opcodes.proofs.row_first.Goals as goal

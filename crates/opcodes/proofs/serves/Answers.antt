@@ -1,5 +1,4 @@
 -- `opcodes::serves` meets its contract: the opcode is compared first, then the mode and the dialect decide.
-use borrow.Author.Rules.{rules}
 use mathlib.Core.Bool.{Bool, ◌&&◌}
 use mathlib.Core.Path.{sym, ap, ap₂, ◌∙◌}
 use borrow.Author.Tests.{eq-eqb, ne_eqb}

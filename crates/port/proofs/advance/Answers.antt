@@ -1,5 +1,4 @@
 -- The session and what is told are the parts of the step's answer, and the memory is the one that the step leaves.
-use borrow.Author.Rules.{rules}
 use mathlib.Core.Path.{ap}
 use Rattle.sent.specs.declared.Answer.{Answer}
 use Rattle.port.specs.rules.Port.{told_of}

@@ -1,5 +1,4 @@
 -- `reading::argument_at` meets its contract: it reads the word at the place that the definition names.
-use borrow.Author.Rules.{rules}
 use Rattle.reading.specs.rules.Reading.{argument}
 use Rattle.reading.proofs.argument_at.Goals as goal
 

@@ -1,5 +1,4 @@
 -- `reading::data_size` meets its contract: a load's is its size word, and no other command has data.
-use borrow.Author.Rules.{rules}
 use mathlib.Core.Path.{sym, ap, ◌∙◌}
 use Rattle.opcodes.specs.declared.Command.{Command}
 use Rattle.reading.specs.rules.Reading.{data_size}

@@ -1,5 +1,4 @@
 -- `reading::has_data` meets its contract: it compares the end of the data words with the image's.
-use borrow.Author.Rules.{rules}
 use Rattle.reading.specs.rules.Reading.{present}
 use Rattle.reading.proofs.has_data.Goals as goal
 

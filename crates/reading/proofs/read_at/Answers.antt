@@ -1,5 +1,4 @@
 -- `reading::read_at` meets its contract: the opcode is looked for first, then in the table.
-use borrow.Author.Rules.{rules}
 use mathlib.Core.Path.{sym, ap, ◌∙◌}
 use Prim.Native.Nat.{ℕ}
 use Rattle.opcodes.specs.rules.Opcodes.{looked_up}

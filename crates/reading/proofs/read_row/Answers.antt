@@ -1,5 +1,4 @@
 -- `reading::read_row` meets its contract: each arm is one case of what the table says, and the argument words are looked for last.
-use borrow.Author.Rules.{rules}
 use mathlib.Core.Path.{sym, ap}
 use Rattle.reading.specs.rules.Reading.{words_from, read_as}
 use Rattle.reading.proofs.Reading.{row_short, row_whole}

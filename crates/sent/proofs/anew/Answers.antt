@@ -1,5 +1,4 @@
 -- `sent::anew` meets its contract: each field is the session's own.
-use borrow.Author.Rules.{rules}
 use Rattle.sent.proofs.anew.Goals as goal
 
 pub returns : goal.returns

@@ -1,5 +1,4 @@
 -- `sent::begin` meets its contract: the totals are those of an opening, and all else is written out.
-use borrow.Author.Rules.{rules}
 use Rattle.sent.proofs.begin.Goals as goal
 
 pub returns : goal.returns

@@ -1,5 +1,4 @@
 -- `sent::byte_at` meets its contract: past the last byte `get_or` is its default.
-use borrow.Author.Rules.{rules}
 use mathlib.Core.Path.{sym}
 use lib.ListN.{get_or-eq_default}
 use Rattle.sent.proofs.byte_at.Goals as goal

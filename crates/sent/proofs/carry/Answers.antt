@@ -1,5 +1,4 @@
 -- `sent::carry` meets its contract: its parts are those of the word's answer, and the line is the one after it.
-use borrow.Author.Rules.{rules}
 use Rattle.sent.specs.rules.Line.{carried}
 use Rattle.sent.proofs.carry.Goals as goal
 

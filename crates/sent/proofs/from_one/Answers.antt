@@ -1,5 +1,4 @@
 -- `sent::from_one` meets its contract: the totals are numbered from 1, all else as it was.
-use borrow.Author.Rules.{rules}
 use Rattle.sent.proofs.from_one.Goals as goal
 
 pub returns : goal.returns

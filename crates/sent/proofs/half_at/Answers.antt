@@ -1,5 +1,4 @@
 -- `sent::half_at` meets its contract: two bytes are the half, and past the last half `get_or` is its default.
-use borrow.Author.Rules.{rules}
 use Prim.Native.Nat.{◌≤◌, ◌<◌}
 use mathlib.Core.Path.{sym, ◌∙◌}
 use native.Mathlib.Omega.{arith}

@@ -1,5 +1,4 @@
 -- `sent::hear` meets its contract: its tests are those of the definition, in their order, and what is left is the whole word.
-use borrow.Author.Rules.{rules}
 use Prim.Native.Nat.{ℕ}
 use mathlib.Core.List.{List}
 use mathlib.Core.Path.{◌≡◌, refl, sym, ap, ◌∙◌}

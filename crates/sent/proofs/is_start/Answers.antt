@@ -1,5 +1,4 @@
 -- `sent::is_start` meets its contract: its tests are those of the definition, one after the other.
-use borrow.Author.Rules.{rules}
 use mathlib.Core.Path.{sym, ◌∙◌}
 use borrow.Author.Tests.{not-true, not-false}
 use Rattle.sent.proofs.Cases.{start_other, start_first, start_inside, start_again}

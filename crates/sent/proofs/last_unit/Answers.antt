@@ -1,5 +1,4 @@
 -- `sent::last_unit` meets its contract: a word has four bytes or two halves.
-use borrow.Author.Rules.{rules}
 use Prim.Native.Nat.{◌-◌}
 use mathlib.Core.Path.{sym, ap}
 use Rattle.sent.specs.rules.Bus.{units_in_word}

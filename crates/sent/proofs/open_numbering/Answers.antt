@@ -1,5 +1,4 @@
 -- `sent::open_numbering` meets its contract: it puts together what it calls.
-use borrow.Author.Rules.{rules}
 use Rattle.sent.proofs.open_numbering.Goals as goal
 
 pub returns : goal.returns

@@ -1,6 +1,5 @@
 -- `sent::open_on` meets its contract: the map is tested as in the definition.
 use mathlib.Core.Bool.{not}
-use borrow.Author.Rules.{rules}
 use mathlib.Core.Path.{sym, ap, ◌∙◌}
 use Rattle.words.proofs.Choice.{chosen, passed}
 use Rattle.sent.specs.rules.Opening.{opened_by}

@@ -1,5 +1,4 @@
 -- `sent::push` meets its contract: a unit moved up to the top of a word fits.
-use borrow.Author.Rules.{rules}
 use Prim.Native.Nat.{◌<◌}
 use native.Mathlib.Omega.{arith}
 use Rattle.sent.specs.rules.Bus.{pushed}

@@ -1,5 +1,4 @@
 -- `sent::shut` meets its contract: eight times the window that is all zero.
-use borrow.Author.Rules.{rules}
 use Rattle.sent.proofs.shut.Goals as goal
 
 pub returns : goal.returns

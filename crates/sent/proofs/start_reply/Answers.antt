@@ -1,5 +1,4 @@
 -- `sent::start_reply` meets its contract: its bytes are those of the unit that answers.
-use borrow.Author.Rules.{rules}
 use mathlib.Core.Path.{sym, ap}
 use Rattle.words.specs.rules.Bytes.{byte}
 use Rattle.sent.specs.rules.Line.{start_answer}

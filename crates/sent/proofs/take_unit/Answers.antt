@@ -1,5 +1,4 @@
 -- `sent::take_unit` meets its contract: the unit is heard by the same session.
-use borrow.Author.Rules.{rules}
 use Rattle.sent.proofs.take_unit.Goals as goal
 
 pub returns : goal.returns

@@ -1,5 +1,4 @@
 -- `sent::tell` meets its contract: it is the definition, field by field, and writes nothing.
-use borrow.Author.Rules.{rules}
 use Rattle.sent.proofs.tell.Goals as goal
 
 pub returns : goal.returns

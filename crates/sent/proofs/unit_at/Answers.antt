@@ -1,5 +1,4 @@
 -- `sent::unit_at` meets its contract: a unit is a byte or a half, by the line.
-use borrow.Author.Rules.{rules}
 use native.Mathlib.Omega.{arith}
 use Rattle.sent.proofs.unit_at.Goals as goal
 

@@ -11,7 +11,6 @@ use Rattle.machine_answers.specs.rules.Replies.{done_word}
 use Rattle.sent.specs.declared.Bus.{Bus}
 use Rattle.sent.specs.declared.Bus.TheVariants.{Bytes, Halves}
 use Rattle.machine_answers.specs.declared.Core.{Core}
-use Rattle.machine_answers.specs.declared.Phase.TheVariants as phase
 
 -- a state with other totals, its numbers as they are
 abbrev pub with_totals : Totals → State → State

@@ -1,5 +1,5 @@
 -- `stores::copy` meets its contract: after i turns the first i bytes are written, and those that would pass the end are none.
-use Prim.Native.Nat.{ℕ, ◌-◌, ◌≤◌, min}
+use Prim.Native.Nat.{ℕ, ◌-◌, min}
 use mathlib.Core.Path.{◌≡◌, sym, ap, ◌∙◌}
 use lib.ListN.{length, get_or}
 use Rattle.words.specs.rules.Bytes.{put}

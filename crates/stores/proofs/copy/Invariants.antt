@@ -1,12 +1,8 @@
 -- What each turn keeps.
-use Prim.Native.Nat.{ℕ, ◌-◌, ◌≤◌, min}
-use mathlib.Core.Path.{◌≡◌, sym, ap, ◌∙◌}
-use lib.ListN.{length, get_or}
+use Prim.Native.Nat.{◌-◌, ◌≤◌}
+use mathlib.Core.Path.{◌≡◌}
+use lib.ListN.{get_or}
 use Rattle.words.specs.rules.Bytes.{put}
-use borrow.Author.Rules.{rules}
-use native.Mathlib.Omega.{arith}
-use Rattle.words.proofs.Puts.{length_put, put_more, put_past, put_clamped}
-use Rattle.stores.specs.rules.Stores.{loaded}
 use Rattle.stores.proofs.copy.Given as goal
 
 abbrev pub invariant-loop-i : goal.invariant-loop-i

@@ -1,5 +1,4 @@
 -- `stores::feed_copied` meets its contract: where the bytes fit, those at their place are the bytes themselves.
-use borrow.Author.Rules.{rules}
 use Prim.Native.Nat.{◌+◌, ◌-◌}
 use mathlib.Core.Path.{◌≡◌, sym, ◌∙◌}
 use native.Mathlib.Nat.{add-sub_cancel_left}

@@ -1,9 +1,8 @@
 -- `stores::feed_data` meets its contract: the words that are left lead from the checksum reached to the same end.
 use Prim.Native.Nat.{ℕ, ◌+◌, ◌-◌, ◌/◌, ◌*◌, min}
-use mathlib.Core.Path.{◌≡◌, refl, sym, ap, ap₂, ◌∙◌}
+use mathlib.Core.Path.{refl, sym, ap, ap₂, ◌∙◌}
 use lib.ListN.{length, drop, take}
 use Rattle.stores.specs.rules.Stores.{words_fed}
-use borrow.Author.Rules.{rules}
 use native.Mathlib.Nat.{sub-zero}
 use Rattle.words.specs.rules.Bytes.{number}
 use Rattle.words.proofs.Numbers.{from_place}

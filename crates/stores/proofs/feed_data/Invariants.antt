@@ -1,14 +1,8 @@
 -- What each turn keeps.
-use Prim.Native.Nat.{ℕ, ◌+◌, ◌-◌, ◌/◌, ◌*◌, min}
-use mathlib.Core.Path.{◌≡◌, refl, sym, ap, ap₂, ◌∙◌}
-use lib.ListN.{length, drop, take}
+use Prim.Native.Nat.{◌+◌, ◌-◌, ◌/◌}
+use mathlib.Core.Path.{◌≡◌}
+use lib.ListN.{length, drop}
 use Rattle.stores.specs.rules.Stores.{words_fed}
-use borrow.Author.Rules.{rules}
-use native.Mathlib.Nat.{sub-zero}
-use Rattle.words.specs.rules.Bytes.{number}
-use Rattle.words.proofs.Numbers.{from_place}
-use Rattle.checksum.specs.rules.Checksum.{fed}
-use Rattle.stores.proofs.Feeding.{next_word, no_word}
 use Rattle.stores.proofs.feed_data.Given as goal
 
 abbrev pub invariant-loop-at : goal.invariant-loop-at

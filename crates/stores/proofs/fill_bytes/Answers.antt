@@ -1,5 +1,4 @@
 -- `stores::fill_bytes` meets its contract: the words and the low bytes of one more are a fill by the widened word, which is the fill by the unit.
-use borrow.Author.Rules.{rules}
 use mathlib.Core.Path.{sym, ◌∙◌}
 use native.Mathlib.Omega.{arith}
 use Rattle.words.proofs.Puts.{put_past}

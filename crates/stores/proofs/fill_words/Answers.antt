@@ -1,10 +1,8 @@
 -- `stores::fill_words` meets its contract: after i turns the first i words are written, and the next one makes it i + 1.
 use borrow.Author.Rules.{rules}
-use Prim.Native.Nat.{◌-◌, ◌*◌, ◌≤◌}
 use mathlib.Core.Path.{◌≡◌}
 use native.Mathlib.Omega.{arith}
 use Rattle.words.specs.rules.Bytes.{put}
-use Rattle.words.specs.declared.Unit.TheVariants.{Four}
 use Rattle.words.proofs.Puts.{length_put}
 use Rattle.stores.specs.rules.Stores.{filled}
 use Rattle.stores.proofs.Filling.{filled_word}

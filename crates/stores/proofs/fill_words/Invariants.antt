@@ -1,13 +1,8 @@
 -- What each turn keeps.
-use borrow.Author.Rules.{rules}
 use Prim.Native.Nat.{◌-◌, ◌*◌, ◌≤◌}
 use mathlib.Core.Path.{◌≡◌}
-use native.Mathlib.Omega.{arith}
-use Rattle.words.specs.rules.Bytes.{put}
 use Rattle.words.specs.declared.Unit.TheVariants.{Four}
-use Rattle.words.proofs.Puts.{length_put}
 use Rattle.stores.specs.rules.Stores.{filled}
-use Rattle.stores.proofs.Filling.{filled_word}
 use Rattle.stores.proofs.fill_words.Given as goal
 
 abbrev pub invariant-loop-i : goal.invariant-loop-i

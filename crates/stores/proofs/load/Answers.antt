@@ -1,6 +1,5 @@
 -- `stores::load` meets its contract: the bytes are copied, and while the checksum is on address, size and data are fed in this order. The data are then
 -- at their place. Of the size the checksum takes the low 32 bits.
-use borrow.Author.Rules.{rules}
 use Prim.Native.Nat.{ℕ, ◌+◌, ◌/◌}
 use mathlib.Core.Path.{sym, ap, ◌∙◌}
 use native.Mathlib.Nat.{le_refl}

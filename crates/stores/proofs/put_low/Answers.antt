@@ -1,5 +1,4 @@
 -- `stores::put_low` meets its contract: the bytes of a word, written by themselves, begin with its low bytes, and these are loaded.
-use borrow.Author.Rules.{rules}
 use Prim.Native.Nat.{ℕ}
 use mathlib.Core.List.{List}
 use mathlib.Core.Path.{sym, ap, ◌∙◌}

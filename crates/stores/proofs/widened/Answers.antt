@@ -1,5 +1,4 @@
 -- `stores::widened` meets its contract: each product is the word of four, two or one copies of the low unit.
-use borrow.Author.Rules.{rules}
 use native.Mathlib.Omega.{arith}
 use lib.Dec.{lit<}
 use Rattle.words.specs.rules.Bits.{join}

@@ -1,12 +1,9 @@
 -- `windows::carries_on` meets its contract: from where it has come to, the windows that are left carry on where all of them do.
-use mathlib.Core.Path.{◌≡◌, sym, ◌∙◌}
+use mathlib.Core.Path.{sym, ◌∙◌}
 use mathlib.Core.Bool.{true≢false}
-use Prim.Native.Nat.{◌-◌}
 use borrow.Author.Rules.{rules}
-use borrow.Author.Tests.{not-true, not-false}
 use native.Mathlib.Omega.{arith}
 use lib.ListN.{drop}
-use Rattle.windows.specs.rules.Window.{carries_on}
 use Rattle.windows.proofs.Chains.{carries_here}
 use Rattle.windows.proofs.Left.{carries_none, carries_next, carries_fails}
 use Rattle.windows.proofs.carries_on.Goals as goal

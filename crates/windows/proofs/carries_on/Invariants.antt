@@ -1,14 +1,8 @@
 -- What each turn keeps.
-use mathlib.Core.Path.{◌≡◌, sym, ◌∙◌}
-use mathlib.Core.Bool.{true≢false}
+use mathlib.Core.Path.{◌≡◌}
 use Prim.Native.Nat.{◌-◌}
-use borrow.Author.Rules.{rules}
-use borrow.Author.Tests.{not-true, not-false}
-use native.Mathlib.Omega.{arith}
 use lib.ListN.{drop}
 use Rattle.windows.specs.rules.Window.{carries_on}
-use Rattle.windows.proofs.Chains.{carries_here}
-use Rattle.windows.proofs.Left.{carries_none, carries_next, carries_fails}
 use Rattle.windows.proofs.carries_on.Given as goal
 
 abbrev pub invariant-loop-reached : goal.invariant-loop-reached

@@ -1,5 +1,4 @@
 -- `windows::cleared` meets its contract: by whether the window is past the first count.
-use borrow.Author.Rules.{rules}
 use borrow.Author.Tests.{le-leb, lt-leb}
 use mathlib.Core.Path.{sym}
 use Rattle.words.proofs.Choice.{chosen, passed}

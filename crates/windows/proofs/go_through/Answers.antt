@@ -1,11 +1,9 @@
 -- `windows::go_through` meets its contract: the search of the windows that are left, from the bytes passed on, finds what the whole
 -- search finds.
-use mathlib.Core.Path.{◌≡◌, sym, ◌∙◌}
-use Prim.Native.Nat.{◌-◌, ◌*◌, ◌^◌, ◌≤◌}
+use mathlib.Core.Path.{sym, ◌∙◌}
 use borrow.Author.Rules.{rules}
 use native.Mathlib.Omega.{arith}
-use lib.ListN.{drop}
-use Rattle.windows.specs.rules.Window.{place_from, place_of}
+use Rattle.windows.specs.rules.Window.{place_of}
 use Rattle.windows.proofs.Left.{place_none, place_not_held, place_within, place_carried, place_broken}
 use Rattle.windows.proofs.Parts.{held}
 use Rattle.windows.proofs.go_through.Goals as goal

@@ -1,13 +1,8 @@
 -- What each turn keeps.
-use mathlib.Core.Path.{◌≡◌, sym, ◌∙◌}
-use mathlib.Core.Logic.{⊎_elim}
+use mathlib.Core.Path.{◌≡◌}
 use Prim.Native.Nat.{◌-◌, ◌*◌, ◌^◌, ◌≤◌}
-use borrow.Author.Rules.{rules}
-use native.Mathlib.Omega.{arith}
 use lib.ListN.{drop}
 use Rattle.windows.specs.rules.Window.{place_from, place_of}
-use Rattle.windows.proofs.Left.{place_none, place_not_held, place_within, place_carried, place_broken}
-use Rattle.windows.proofs.Parts.{held}
 use Rattle.windows.proofs.go_through.Given as goal
 
 abbrev pub invariant-loop-i : goal.invariant-loop-i

@@ -1,6 +1,5 @@
 -- `windows::grants` meets its contract: where the window holds the address, the range's end decides.
 use mathlib.Core.Path.{refl, sym, ◌∙◌}
-use borrow.Author.Rules.{rules}
 use Rattle.windows.specs.rules.Window.{grants_range}
 use Rattle.windows.proofs.grants.Goals as goal
 

@@ -1,7 +1,6 @@
 -- `windows::has` meets its contract: in the case of each right its number is a literal.
 use mathlib.Core.Path.{◌≡◌, refl, ap}
 use Prim.Native.Nat.{ℕ, ◌/◌, ◌%◌}
-use borrow.Author.Rules.{rules}
 use native.Mathlib.Omega.{arith}
 use lib.Dec.{eqb}
 use Rattle.windows.specs.rules.Window.{has_right}

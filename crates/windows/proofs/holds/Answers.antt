@@ -1,6 +1,5 @@
 -- `windows::holds` meets its contract: a test that failed is a part of `holds_address`, and the right decides where the address lies inside.
 use mathlib.Core.Path.{◌∙◌}
-use borrow.Author.Rules.{rules}
 use native.Mathlib.Omega.{arith}
 use Rattle.words.proofs.Choice.{refuted}
 use Rattle.windows.proofs.Parts.{held, held_by_right}

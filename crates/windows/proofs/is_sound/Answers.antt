@@ -1,6 +1,5 @@
 -- `windows::is_sound` meets its contract: a test that failed is a part of `sound_window`, and the last one
 -- decides where the others hold.
-use borrow.Author.Rules.{rules}
 use native.Mathlib.Omega.{arith}
 use Rattle.words.proofs.Choice.{refuted}
 use Rattle.windows.proofs.Parts.{sound, sound_by_rights}

@@ -1,10 +1,9 @@
 -- `windows::kept` meets its contract: to keep the first count of the windows as they are now, or as many as were looked at, gives what was asked of the windows
 -- at the start.
-use mathlib.Core.Path.{◌≡◌, ap, ◌∙◌}
-use Prim.Native.Nat.{ℕ, ◌-◌, ◌≤◌, max}
+use mathlib.Core.Path.{ap, ◌∙◌}
+use Prim.Native.Nat.{ℕ, max}
 use borrow.Author.Rules.{rules}
 use native.Mathlib.Omega.{arith}
-use lib.ListN.{length}
 use Rattle.windows.specs.rules.Map.{kept_of}
 use Rattle.windows.proofs.Left.{kept_cleared, kept_all}
 use Rattle.windows.proofs.kept.Goals as goal

@@ -1,11 +1,8 @@
 -- What each turn keeps.
-use mathlib.Core.Path.{◌≡◌, ap, ◌∙◌}
-use Prim.Native.Nat.{ℕ, ◌-◌, ◌≤◌, max}
-use borrow.Author.Rules.{rules}
-use native.Mathlib.Omega.{arith}
+use mathlib.Core.Path.{◌≡◌}
+use Prim.Native.Nat.{◌-◌, ◌≤◌, max}
 use lib.ListN.{length}
 use Rattle.windows.specs.rules.Map.{kept_of}
-use Rattle.windows.proofs.Left.{kept_cleared, kept_all}
 use Rattle.windows.proofs.kept.Given as goal
 
 abbrev pub invariant-loop-i : goal.invariant-loop-i

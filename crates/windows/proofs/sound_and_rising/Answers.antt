@@ -1,13 +1,10 @@
 -- `windows::sound_and_rising` meets its contract: the windows that are left, from the end before them, pass both
 -- tests where all of them do.
-use mathlib.Core.Path.{◌≡◌, sym, ◌∙◌}
+use mathlib.Core.Path.{sym, ◌∙◌}
 use mathlib.Core.Bool.{true≢false}
-use Prim.Native.Nat.{◌-◌, ◌≤◌}
 use borrow.Author.Rules.{rules}
-use borrow.Author.Tests.{not-true, not-false}
 use native.Mathlib.Omega.{arith}
-use lib.ListN.{take, drop, length-take}
-use Rattle.windows.specs.rules.Map.{sound_and_rising}
+use lib.ListN.{take, length-take}
 use Rattle.windows.proofs.Left.{rising_none, rising_on, rising_fails}
 use Rattle.windows.proofs.sound_and_rising.Goals as goal
 

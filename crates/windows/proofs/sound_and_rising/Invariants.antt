@@ -1,13 +1,8 @@
 -- What each turn keeps.
-use mathlib.Core.Path.{◌≡◌, sym, ◌∙◌}
-use mathlib.Core.Bool.{true≢false}
+use mathlib.Core.Path.{◌≡◌}
 use Prim.Native.Nat.{◌-◌, ◌≤◌}
-use borrow.Author.Rules.{rules}
-use borrow.Author.Tests.{not-true, not-false}
-use native.Mathlib.Omega.{arith}
-use lib.ListN.{take, drop, length-take}
+use lib.ListN.{take, drop}
 use Rattle.windows.specs.rules.Map.{sound_and_rising}
-use Rattle.windows.proofs.Left.{rising_none, rising_on, rising_fails}
 use Rattle.windows.proofs.sound_and_rising.Given as goal
 
 abbrev pub invariant-loop-i : goal.invariant-loop-i

@@ -1,11 +1,9 @@
 -- `windows::sum_first` meets its contract: what the loop has added and the sum of those that are left of the first windows make their sum. At most
 -- eight lengths below 2^32 fit.
-use mathlib.Core.Path.{◌≡◌}
-use Prim.Native.Nat.{◌+◌, ◌-◌, ◌*◌, ◌^◌, ◌≤◌}
+use Prim.Native.Nat.{◌≤◌}
 use borrow.Author.Rules.{rules}
 use native.Mathlib.Omega.{arith}
-use lib.ListN.{length, take, drop, length-take}
-use Rattle.windows.specs.rules.Window.{sum_of}
+use lib.ListN.{length, take, length-take}
 use Rattle.windows.proofs.Left.{sum_counted, sum_none}
 use Rattle.windows.proofs.sum_first.Goals as goal
 

@@ -1,11 +1,8 @@
 -- What each turn keeps.
 use mathlib.Core.Path.{◌≡◌}
 use Prim.Native.Nat.{◌+◌, ◌-◌, ◌*◌, ◌^◌, ◌≤◌}
-use borrow.Author.Rules.{rules}
-use native.Mathlib.Omega.{arith}
-use lib.ListN.{length, take, drop, length-take}
+use lib.ListN.{take, drop}
 use Rattle.windows.specs.rules.Window.{sum_of}
-use Rattle.windows.proofs.Left.{sum_counted, sum_none}
 use Rattle.windows.proofs.sum_first.Given as goal
 
 abbrev pub invariant-loop-i : goal.invariant-loop-i

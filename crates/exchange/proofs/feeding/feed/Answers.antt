@@ -1,11 +1,10 @@
 -- `exchange::feeding::feed` meets its contract: what is left to feed leads to the same end from where the loop stands.
 use borrow.Author.Rules.{rules}
-use Prim.Native.Nat.{◌-◌, ◌≤◌, ◌<◌}
+use Prim.Native.Nat.{◌<◌}
 use mathlib.Core.Path.{◌≡◌, refl, sym, ◌∙◌}
 use native.Mathlib.Omega.{arith}
-use lib.ListN.{length, drop}
+use lib.ListN.{length}
 use Rattle.sent.specs.rules.Bus.{units_fed}
-use Rattle.exchange.specs.rules.Standing.{standing_fed, memory_fed, room_fed}
 use Rattle.exchange.proofs.Hearing.{feeds, all_fed, all_laid, all_told}
 use Rattle.exchange.proofs.feeding.feed.Goals as goal
 

@@ -1,12 +1,9 @@
 -- What each turn keeps.
-use borrow.Author.Rules.{rules}
-use Prim.Native.Nat.{◌-◌, ◌≤◌, ◌<◌}
-use mathlib.Core.Path.{◌≡◌, refl, sym, ◌∙◌}
-use native.Mathlib.Omega.{arith}
+use Prim.Native.Nat.{◌-◌, ◌≤◌}
+use mathlib.Core.Path.{◌≡◌}
 use lib.ListN.{length, drop}
 use Rattle.sent.specs.rules.Bus.{units_fed}
 use Rattle.exchange.specs.rules.Standing.{standing_fed, memory_fed, room_fed}
-use Rattle.exchange.proofs.Hearing.{feeds, all_fed, all_laid, all_told}
 use Rattle.exchange.proofs.feeding.feed.Given as goal
 
 abbrev pub invariant-loop-i : goal.invariant-loop-i

@@ -1,5 +1,4 @@
 -- `exchange::feeding::first_but_ended` meets its contract: each way is one case of the definition.
-use borrow.Author.Rules.{rules}
 use mathlib.Core.Path.{sym, ◌∙◌}
 use Rattle.opcodes.specs.rules.Answers.{code_of}
 use Rattle.exchange.proofs.Hearing.{keeps_first, counts_none, counts_code}

@@ -1,7 +1,7 @@
 -- `exchange::feeding::hear_all` meets its contract: what is left of the reply, heard from where the loop stands, gives the same host; the loop stops where
 -- nothing is left.
 use borrow.Author.Rules.{rules}
-use Prim.Native.Nat.{◌+◌, ◌-◌, ◌≤◌}
+use Prim.Native.Nat.{◌+◌}
 use mathlib.Core.Path.{◌≡◌, refl, sym, ap, ◌∙◌}
 use native.Mathlib.Omega.{arith}
 use lib.ListN.{length, take, drop, length-take}

@@ -1,12 +1,8 @@
 -- What each turn keeps.
-use borrow.Author.Rules.{rules}
-use Prim.Native.Nat.{◌+◌, ◌-◌, ◌≤◌}
-use mathlib.Core.Path.{◌≡◌, refl, sym, ap, ◌∙◌}
-use native.Mathlib.Omega.{arith}
-use lib.ListN.{length, take, drop, length-take}
+use Prim.Native.Nat.{◌-◌, ◌≤◌}
+use mathlib.Core.Path.{◌≡◌}
+use lib.ListN.{length, take, drop}
 use Rattle.host_answers.specs.rules.Hosts.{heard_all}
-use Rattle.host_answers.specs.declared.Host.{Host}
-use Rattle.exchange.proofs.Hearing.{byte_turn, all_heard}
 use Rattle.exchange.proofs.feeding.hear_all.Given as goal
 
 abbrev pub invariant-loop-i : goal.invariant-loop-i

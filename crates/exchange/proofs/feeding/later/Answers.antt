@@ -1,5 +1,4 @@
 -- `exchange::feeding::later` meets its contract: Nothing is none, and any other event is the last.
-use borrow.Author.Rules.{rules}
 use Prim.Native.Nat.{ℕ}
 use mathlib.Core.Path.{◌≡◌, sym, ap, ◌∙◌}
 use Rattle.opcodes.specs.rules.Answers.{told}

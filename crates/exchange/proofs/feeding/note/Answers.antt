@@ -1,5 +1,4 @@
 -- `exchange::feeding::note` meets its contract: it is the definition, field by field, and the event is told.
-use borrow.Author.Rules.{rules}
 use Rattle.exchange.proofs.feeding.note.Goals as goal
 
 pub returns : goal.returns

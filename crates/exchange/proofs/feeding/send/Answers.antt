@@ -1,5 +1,4 @@
 -- `exchange::feeding::send` meets its contract: each arm is one case of what goes out.
-use borrow.Author.Rules.{rules}
 use Prim.Native.Nat.{ℕ}
 use mathlib.Core.List.{List}
 use mathlib.Core.Path.{sym, ap, ◌∙◌}

@@ -1,5 +1,4 @@
 -- `exchange::feeding::send_start` meets its contract: the bytes lent are the start unit of the line.
-use borrow.Author.Rules.{rules}
 use Rattle.sent.specs.rules.Bus.{halves_of}
 use Rattle.exchange.proofs.Hearing.{start_fed}
 use Rattle.exchange.proofs.feeding.send_start.Goals as goal

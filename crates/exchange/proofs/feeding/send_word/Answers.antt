@@ -1,5 +1,4 @@
 -- `exchange::feeding::send_word` meets its contract: the bytes lent are the units of the word.
-use borrow.Author.Rules.{rules}
 use Rattle.exchange.proofs.Hearing.{fed_as, word_lent}
 use Rattle.exchange.proofs.feeding.send_word.Goals as goal
 

@@ -1,5 +1,4 @@
 -- `exchange::feeding::units_in` meets its contract: a byte is a unit by itself, and two bytes are a half.
-use borrow.Author.Rules.{rules}
 use mathlib.Core.Path.{sym, ap, ◌∙◌}
 use lib.ListN.{length}
 use Rattle.sent.specs.rules.Bus.{units_fed}

@@ -1,9 +1,8 @@
 -- `flash_session::Session::open` meets its contract: map, image length and first word are tested in the definition's order.
-use borrow.Author.Rules.{rules}
 use mathlib.Core.Bool.{not}
 use mathlib.Core.Path.{sym, ap, ◌∙◌}
 use native.Mathlib.Omega.{arith}
-use borrow.Author.Tests.{eq-eqb, ne_eqb, not-false}
+use borrow.Author.Tests.{eq-eqb, ne_eqb}
 use Rattle.words.proofs.Choice.{chosen, passed}
 use Rattle.flash_session.specs.rules.Opening.{opened_by}
 use lib.ListN.{length}

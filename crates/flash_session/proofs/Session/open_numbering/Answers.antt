@@ -1,5 +1,4 @@
 -- `flash_session::Session::open_numbering` meets its contract: it puts together what it calls.
-use borrow.Author.Rules.{rules}
 use Rattle.flash_session.proofs.Session.open_numbering.Goals as goal
 
 pub returns : goal.returns

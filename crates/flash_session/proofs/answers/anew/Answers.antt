@@ -1,5 +1,4 @@
 -- `flash_session::answers::anew` meets its contract: each field is the session's own.
-use borrow.Author.Rules.{rules}
 use Rattle.flash_session.proofs.answers.anew.Goals as goal
 
 pub returns : goal.returns

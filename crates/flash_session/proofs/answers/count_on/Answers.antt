@@ -1,5 +1,4 @@
 -- `flash_session::answers::count_on` meets its contract: the words are added where 32 bits hold the sum, else the count is the largest number.
-use borrow.Author.Rules.{rules}
 use native.Mathlib.Omega.{arith}
 use Rattle.flash_session.specs.rules.Sessions.{counted_on}
 use Rattle.flash_session.proofs.answers.count_on.Goals as goal

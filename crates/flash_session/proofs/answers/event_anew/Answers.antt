@@ -1,5 +1,4 @@
 -- `flash_session::answers::event_anew` meets its contract: each arm gives back the event that it matched.
-use borrow.Author.Rules.{rules}
 use mathlib.Core.Path.{sym}
 use Rattle.flash_session.proofs.answers.event_anew.Goals as goal
 

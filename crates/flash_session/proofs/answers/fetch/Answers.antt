@@ -1,5 +1,4 @@
 -- `flash_session::answers::fetch` meets its contract: the count goes on, and the session is otherwise as it was.
-use borrow.Author.Rules.{rules}
 use Rattle.flash_session.proofs.answers.fetch.Goals as goal
 
 pub returns : goal.returns

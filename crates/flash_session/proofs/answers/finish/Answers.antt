@@ -1,5 +1,4 @@
 -- `flash_session::answers::finish` meets its contract: the refusal's number is 0 exactly where there is none.
-use borrow.Author.Rules.{rules}
 use Rattle.flash_session.specs.rules.Sessions.{after}
 use Rattle.words.proofs.Choice.{chosen, passed}
 use borrow.Author.Tests.{eq-eqb, ne_eqb}

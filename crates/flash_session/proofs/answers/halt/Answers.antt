@@ -1,5 +1,4 @@
 -- `flash_session::answers::halt` meets its contract: it is the definition, field by field, and writes nothing.
-use borrow.Author.Rules.{rules}
 use Rattle.flash_session.proofs.answers.halt.Goals as goal
 
 pub returns : goal.returns

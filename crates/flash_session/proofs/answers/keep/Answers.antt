@@ -1,5 +1,4 @@
 -- `flash_session::answers::keep` meets its contract: it is the definition, field by field, and writes nothing.
-use borrow.Author.Rules.{rules}
 use Rattle.flash_session.proofs.answers.keep.Goals as goal
 
 pub returns : goal.returns

@@ -1,5 +1,4 @@
 -- `flash_session::answers::proceed` meets its contract: the totals are turned by what happened, and the rest is the definition, field by field.
-use borrow.Author.Rules.{rules}
 use Rattle.flash_session.proofs.answers.proceed.Goals as goal
 
 pub returns : goal.returns

@@ -1,5 +1,4 @@
 -- `flash_session::opening::begin` meets its contract: the session's fields are the definition's.
-use borrow.Author.Rules.{rules}
 use Rattle.flash_session.proofs.opening.begin.Goals as goal
 
 pub returns : goal.returns

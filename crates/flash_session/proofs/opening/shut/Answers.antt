@@ -1,5 +1,4 @@
 -- `flash_session::opening::shut` meets its contract: the session's fields are the definition's.
-use borrow.Author.Rules.{rules}
 use Rattle.flash_session.proofs.opening.shut.Goals as goal
 
 pub returns : goal.returns

@@ -1,5 +1,4 @@
 -- `host::greetings::echo` meets its contract: its tests are those of the definition, in their order.
-use borrow.Author.Rules.{rules}
 use mathlib.Core.Bool.{not}
 use mathlib.Core.Path.{sym, ap, ◌∙◌}
 use borrow.Author.Tests.{lt-ltb, le-ltb, eq-eqb, ne_eqb}

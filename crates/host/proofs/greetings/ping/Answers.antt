@@ -1,5 +1,4 @@
 -- `host::greetings::ping` meets its contract: the right answer is tested as in the definition.
-use borrow.Author.Rules.{rules}
 use mathlib.Core.Path.{sym, ◌∙◌}
 use Rattle.words.proofs.Choice.{chosen, passed}
 use Rattle.host_answers.specs.rules.Answers.{answered_by}

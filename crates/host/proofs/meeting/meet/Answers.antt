@@ -1,5 +1,4 @@
 -- `host::meeting::meet` meets its contract: each arm is one case of what was read.
-use borrow.Author.Rules.{rules}
 use mathlib.Core.Path.{sym, ap, ◌∙◌}
 use Rattle.host.specs.rules.Turn.{met}
 use Rattle.host.proofs.meeting.meet.Goals as goal

@@ -1,5 +1,4 @@
 -- `host::meeting::meet_to` meets its contract: each arm is one case of the command's role.
-use borrow.Author.Rules.{rules}
 use mathlib.Core.Path.{sym, ◌∙◌}
 use Rattle.host.proofs.MetByRole.{met_by, met_other}
 use Rattle.host.proofs.meeting.meet_to.Goals as goal

@@ -1,5 +1,4 @@
 -- `host::meeting::meet_whole` meets its contract: the data are tested as in the definition.
-use borrow.Author.Rules.{rules}
 use mathlib.Core.Path.{sym, ◌∙◌}
 use borrow.Author.Tests.{lt-ltb, le-ltb}
 use Rattle.words.proofs.Choice.{chosen, passed}

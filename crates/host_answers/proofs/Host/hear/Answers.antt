@@ -1,5 +1,4 @@
 -- `host_answers::Host::hear` meets its contract: the byte is taken in by the ear.
-use borrow.Author.Rules.{rules}
 use Rattle.host_answers.specs.rules.Hosts.{heard}
 use Rattle.host_answers.proofs.Host.hear.Goals as goal
 

@@ -1,10 +1,9 @@
 -- `host_answers::Host::open` meets its contract: length, first word and tries are tested in the definition's order.
-use borrow.Author.Rules.{rules}
 use mathlib.Core.Bool.{not}
 use mathlib.Core.Path.{sym, ap, ◌∙◌}
 use native.Mathlib.Omega.{arith}
 use lib.ListN.{length}
-use borrow.Author.Tests.{eq-eqb, ne_eqb, not-false}
+use borrow.Author.Tests.{eq-eqb, ne_eqb}
 use Rattle.words.proofs.Choice.{chosen, passed}
 use Rattle.flash_session.proofs.Lengths.{length_small}
 use Rattle.host_answers.specs.rules.Hosts.{opened_by}

@@ -1,5 +1,4 @@
 -- `host_answers::answers::again` meets its contract: its tests are those of the definition, with no sum that could wrap.
-use borrow.Author.Rules.{rules}
 use Prim.Native.Nat.{◌+◌}
 use mathlib.Core.Path.{sym, ◌∙◌}
 use native.Mathlib.Omega.{arith}

@@ -1,5 +1,4 @@
 -- `host_answers::answers::go_to` meets its contract: it is the definition.
-use borrow.Author.Rules.{rules}
 use Rattle.host_answers.proofs.answers.go_to.Goals as goal
 
 pub returns : goal.returns

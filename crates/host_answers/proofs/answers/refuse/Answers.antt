@@ -1,5 +1,4 @@
 -- `host_answers::answers::refuse` meets its contract: it is the definition.
-use borrow.Author.Rules.{rules}
 use Rattle.host_answers.proofs.answers.refuse.Goals as goal
 
 pub returns : goal.returns

@@ -1,5 +1,4 @@
 -- `host_answers::answers::repeat` meets its contract: what was heard is tested as in the definition.
-use borrow.Author.Rules.{rules}
 use mathlib.Core.Path.{sym, ◌∙◌}
 use Rattle.words.proofs.Choice.{chosen, passed}
 use Rattle.host_answers.proofs.answers.repeat.Goals as goal

@@ -1,5 +1,4 @@
 -- `host_answers::answers::spend` meets its contract: it is the definition, field by field.
-use borrow.Author.Rules.{rules}
 use Rattle.host_answers.proofs.answers.spend.Goals as goal
 
 pub returns : goal.returns

@@ -1,5 +1,4 @@
 -- `host_answers::answers::wait_for` meets its contract: it is the definition, field by field.
-use borrow.Author.Rules.{rules}
 use Rattle.host_answers.proofs.answers.wait_for.Goals as goal
 
 pub returns : goal.returns

@@ -1,5 +1,4 @@
 -- `host_answers::sendings::opening` meets its contract: each arm is one case of the definition.
-use borrow.Author.Rules.{rules}
 use mathlib.Core.Path.{sym, ap}
 use Rattle.host_answers.specs.declared.Wait.{Wait}
 use Rattle.host_answers.specs.rules.Sendings.{opens}

@@ -1,5 +1,4 @@
 -- `host_answers::sendings::part` meets its contract: the part is taken where it is there.
-use borrow.Author.Rules.{rules}
 use mathlib.Core.Path.{sym, ◌∙◌}
 use Rattle.words.proofs.Choice.{chosen, passed}
 use Rattle.words.specs.rules.Bytes.{bytes_at}

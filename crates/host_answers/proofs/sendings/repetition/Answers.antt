@@ -1,5 +1,4 @@
 -- `host_answers::sendings::repetition` meets its contract: an echo is one case of the definition, and all other waits send what they sent on entering.
-use borrow.Author.Rules.{rules}
 use mathlib.Core.Path.{sym, ap, ◌∙◌}
 use Rattle.host_answers.specs.declared.Wait.{Wait}
 use Rattle.host_answers.specs.rules.Sendings.{repeats}

@@ -1,5 +1,4 @@
 -- `ledger::Totals::count` meets its contract, by the dialect.
-use Rattle.std.proofs.Common.{rules}
 use Rattle.ledger.proofs.Totals.count.Goals as goal
 
 pub returns-in-Am17xx : goal.returns-in-Am17xx

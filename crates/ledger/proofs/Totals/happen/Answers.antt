@@ -1,5 +1,5 @@
 -- `ledger::Totals::happen` meets its contract: each arm is one case of the definition.
-use Rattle.std.proofs.Common.{◌≡◌, sym, ap, ◌∙◌, rules}
+use Rattle.std.proofs.Common.{◌≡◌, sym, ap, ◌∙◌}
 use Rattle.opcodes.specs.declared.Dialect.{Dialect}
 use Rattle.ledger.specs.rules.Totals.{numbered, in_flash}
 use Rattle.ledger.specs.declared.Happening.{Happening}

@@ -1,5 +1,4 @@
 -- `ledger::Totals::number` meets its contract: the number after the next.
-use Rattle.std.proofs.Common.{rules}
 use Rattle.ledger.proofs.Totals.number.Goals as goal
 
 pub returns : goal.returns

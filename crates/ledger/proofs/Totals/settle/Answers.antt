@@ -1,5 +1,4 @@
 -- `ledger::Totals::settle` meets its contract: by whether a Request stands.
-use Rattle.std.proofs.Common.{rules}
 use Rattle.words.specs.rules.Choice.{pick}
 use Rattle.ledger.proofs.Totals.settle.Goals as goal
 

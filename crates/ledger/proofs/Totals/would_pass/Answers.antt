@@ -1,5 +1,4 @@
 -- `ledger::Totals::would_pass` meets its contract, by the dialect.
-use Rattle.std.proofs.Common.{rules}
 use Rattle.ledger.proofs.Totals.would_pass.Goals as goal
 
 pub returns-in-Am17xx : goal.returns-in-Am17xx

@@ -1,5 +1,4 @@
 -- `ledger::Totals::zero` meets its contract: what its parts are.
-use Rattle.std.proofs.Common.{rules}
 use Rattle.ledger.proofs.Totals.zero.Goals as goal
 
 pub returns : goal.returns

@@ -1,5 +1,4 @@
 -- `machine::opening::begun_by` meets its contract: each arm is one side of the choice, and the totals turn where it is an opcode.
-use borrow.Author.Rules.{rules}
 use mathlib.Core.Path.{sym}
 use Rattle.words.proofs.Choice.{chosen, passed}
 use Rattle.machine.proofs.opening.begun_by.Goals as goal

@@ -1,5 +1,4 @@
 -- `machine::opening::reply_before` meets its contract: the bytes of the word, then the first four of the other reply.
-use borrow.Author.Rules.{rules}
 use Rattle.machine_answers.specs.rules.Replies.{word_then}
 use Rattle.machine.proofs.opening.reply_before.Goals as goal
 

@@ -1,5 +1,4 @@
 -- `machine_answers::counts::count_on` meets its contract: counted, then numbered.
-use borrow.Author.Rules.{rules}
 use Rattle.machine_answers.proofs.counts.count_on.Goals as goal
 
 pub returns : goal.returns

@@ -1,5 +1,4 @@
 -- `machine_answers::counts::judge_count` meets its contract: it puts together what it calls.
-use borrow.Author.Rules.{rules}
 use Rattle.machine_answers.proofs.counts.judge_count.Goals as goal
 
 pub returns : goal.returns

@@ -1,5 +1,4 @@
 -- `machine_answers::counts::judge_number` meets its contract: it puts together what it calls.
-use borrow.Author.Rules.{rules}
 use Rattle.machine_answers.proofs.counts.judge_number.Goals as goal
 
 pub returns : goal.returns

@@ -1,5 +1,4 @@
 -- `sent::Session::step_at` meets its contract: the unit at the place is taken.
-use borrow.Author.Rules.{rules}
 use Rattle.sent.proofs.Session.step_at.Goals as goal
 
 pub take_unit-requires : goal.take_unit-requires
