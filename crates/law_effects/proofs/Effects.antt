@@ -25,7 +25,8 @@ use Rattle.windows.specs.declared.Window.{Window}
 use Rattle.windows.proofs.Laws.{placed_inside}
 use Rattle.words.proofs.Choice.{both, of_choice}
 use Rattle.opcodes.specs.declared.Refusal.{Refusal}
-use Rattle.commands.specs.rules.Commands.{placed, range_judged, load_judged, unit_of, units_judged, type_judged, fill_judged, type_filled, fill_memory, start_of, stop_of}
+use Rattle.commands.specs.rules.Commands.{placed, range_judged, load_judged, unit_of, units_judged, type_judged}
+use Rattle.commands.specs.rules.Commands.{fill_judged, type_filled, fill_memory, start_of, stop_of}
 use Rattle.commands.specs.rules.Commands.{field_shape, type_shape, shape_of, too_wide, shape_judged, setting_judged, shape_set, setting_memory}
 use Rattle.stores.specs.rules.Stores.{loaded, filled}
 use Rattle.commands.specs.declared.Judged.{Judged}

@@ -26,7 +26,8 @@ use Rattle.windows.specs.declared.Place.{Place}
 use Rattle.windows.specs.declared.Place.TheVariants.{At, Nowhere}
 use Rattle.windows.specs.declared.Right.TheVariants as right
 use Rattle.opcodes.specs.declared.Refusal.TheVariants as refusal
-use Rattle.commands.specs.rules.Commands.{judged_code, multiple, placed, range_judged, unit_of, units_judged, start_of, stop_of, field_shape, type_shape, shape_of}
+use Rattle.commands.specs.rules.Commands.{judged_code, multiple, placed, range_judged, unit_of, units_judged}
+use Rattle.commands.specs.rules.Commands.{start_of, stop_of, field_shape, type_shape, shape_of}
 use Rattle.commands.specs.rules.Commands.{too_wide, shape_judged, setting_judged, setting_done, setting_memory}
 use Rattle.commands.specs.declared.Judged.{Judged}
 use Rattle.commands.specs.declared.Judged.TheVariants.{Granted, Refused}
@@ -146,8 +147,8 @@ module _ (windows : List Window) (word address value : ℕ) where
       of_choice ShapeCase _ (λ e. another (Refused refusal.TypeWord) refl) (λ e. kind_case (eqb-true _ _ (not-false _ e)))
 
 pub field_laws : FieldLaws
-unfolding pick bit join with_field byte number bytes_at put fits field_fits field_written window.has_right window.inside window.grants_range window.place_from place_of
-    multiple range_judged unit_of units_judged field_shape shape_of too_wide setting_done setting_memory
+unfolding pick bit join with_field byte number bytes_at put fits field_fits field_written window.has_right window.inside window.grants_range
+    window.place_from place_of multiple range_judged unit_of units_judged field_shape shape_of too_wide setting_done setting_memory
 field_laws =
     record {
       accepted = λ windows m lent word address value place named granted. named_holds windows word address value named m lent granted;

@@ -1,6 +1,7 @@
 -- What holds of the survey of a list of images. The survey so far has the number of the images before and the last opened one of them, which is all that a
 -- line asks of it; so each law goes by induction over the images that are still to come.
-use Rattle.std.proofs.Common.{◌≡◌, ℕ, suc, ◌+◌, ◌*◌, ◌%◌, ◌^◌, ◌<◌, ◌≤◌, ◌&&◌, leb, List, [], ◌∷◌, ◌++◌, length, take, drop, sym, refl, ap, ◌∙◌, ap₂, mod-eq_of_lt, arith, length-append, take_at, drop_at}
+use Rattle.std.proofs.Common.{◌≡◌, ℕ, suc, ◌+◌, ◌*◌, ◌%◌, ◌^◌, ◌<◌, ◌≤◌, ◌&&◌, leb, List, [], ◌∷◌}
+use Rattle.std.proofs.Common.{◌++◌, length, take, drop, sym, refl, ap, ◌∙◌, ap₂, mod-eq_of_lt, arith, length-append, take_at, drop_at}
 use mathlib.Core.List.{map-append}
 use mathlib.Core.Option.{Option, none, some}
 use lib.Bits.{bit_xor, xor_lt}
@@ -24,7 +25,8 @@ use Rattle.survey.specs.declared.SurveyTotals.{SurveyTotals}
 -- ---- each line
 
 -- one image more, and the last opened one is it, or as before where it is absent
-last_opened : (other : Image) (earlier : List Image) (i : Image) → last_or other (opened_ones (earlier ++ i ∷ [])) ≡ latest (last_or other (opened_ones earlier)) i
+last_opened : (other : Image) (earlier : List Image) (i : Image)
+    → last_or other (opened_ones (earlier ++ i ∷ [])) ≡ latest (last_or other (opened_ones earlier)) i
 unfolding opened_ones latest
 last_opened other [] i =
     by_test (is_opened i)

@@ -1,17 +1,10 @@
 -- `checking::limit_of` meets its contract: the number that was read, or none, is the limit; it is not above 255, so that it fits.
-use mathlib.Core.Path.{sym, ap, ◌∙◌}
+use mathlib.Core.Path.{sym, ◌∙◌}
 use native.Mathlib.Omega.{arith}
 use Rattle.digits.proofs.Reading.{made}
-use Rattle.checking.specs.rules.Limit.{as_limit}
 use Rattle.checking.proofs.limit_of.Goals as goal
 
 pub overflow_cast-result : goal.overflow_cast-result
 overflow_cast-result c =
     let number = made 10 255 _ _ (sym c.in-Is.is ∙ c.decimal.ensures) in
     record { fits = omega (arith, number.small, number.is) }
-
-pub returns-in-Is : goal.returns-in-Is
-returns-in-Is c = ap as_limit (sym c.in-Is.is ∙ c.decimal.ensures)
-
-pub returns-in-Wrong : goal.returns-in-Wrong
-returns-in-Wrong c = ap as_limit (sym c.in-Wrong.is ∙ c.decimal.ensures)

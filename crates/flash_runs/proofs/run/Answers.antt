@@ -1,23 +1,11 @@
 -- `flash_runs::run` meets its contract: the calls that are left lead to the same outcome, the same numbers and offsets and the same room as all of them.
-use Prim.Native.Nat.{◌+◌, ◌/◌, ◌^◌}
-use mathlib.Core.Path.{refl, sym, ◌∙◌}
-use native.Mathlib.Nat.{mul-le-mul}
-use native.Mathlib.Omega.{arith}
+use mathlib.Core.Path.{sym, ◌∙◌}
 use borrow.Author.Rules.{rules}
 use Rattle.flash_runs.specs.rules.Entries.{run_stamps}
 use Rattle.flash_runs.specs.rules.Events.{run_events}
 use Rattle.flash_runs.specs.rules.Run.{run_of}
 use Rattle.flash_runs.proofs.Running.{spent, stops, leads_on, leads_last}
 use Rattle.flash_runs.proofs.run.Goals as goal
-
-pub overflow_mul-left : goal.overflow_mul-left
-overflow_mul-left c =
-    let session = c.args.session in
-    omega (arith, mul-le-mul {n₁ = session.limit + 1} {m₁ = session.length / 4} {n₂ = 256} {m₂ = 2 ^ 30} (omega arith) (omega arith))
-
-pub loop-left-init : goal.loop-left-init
-loop-left-init c =
-    (search rules, search rules, search rules, search rules, record { outcome = refl; by_number = refl; by_offset = refl; by_place = refl; by_event = refl })
 
 pub returns-then-left-eq0 : goal.returns-then-left-eq0
 unfolding run_of run_stamps run_events

@@ -11,6 +11,3 @@ returns-then-count-eq0 c = record { numbers_after = sym (none_taken _ _ _ _ c.if
 
 pub returns-then-offsets-eq0 : goal.returns-then-offsets-eq0
 returns-then-offsets-eq0 c = record { numbers_after = c.stamp.ensures; offsets_after = sym (none_beside _ _ _ c.if-offsets-eq0.true) }
-
-pub returns : goal.returns
-returns c = record { numbers_after = c.stamp.ensures; offsets_after = rw c.renumber.ensures at c.stamp-2.ensures }
