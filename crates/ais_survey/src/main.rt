@@ -1,8 +1,7 @@
 // The survey program: reads the names of images on standard input, one to a line, and writes a line for each and the totals.
 #![tactic(auto)]
 
-ghost use Rattle.std.specs.Prelude.{◌≤◌, length};
-ghost use Rattle.io.specs.Counts.{IsPrefixLen};
+ghost use Rattle.std.specs.Prelude.{◌≡◌, ◌≤◌, length, take};
 
 use std::fs::Files;
 use std::io::Read;
@@ -84,7 +83,7 @@ struct Found {
 
 // Reads a line of the list: up to its line feed, or to the end of the list where something stands before it. No list has as many bytes as there are turns.
 fn read_name(input: &mut impl Read, list: &mut [u8], from: Place, name: &mut [u8]) -> Found
-    ensures { IsPrefixLen result.kept name.new }
+    ensures { (result.kept ≤ length name.new) × (result.kept ≡ length (take result.kept name.new)) }
 {
     let mut place = from;
     let mut kept: usize = 0;
@@ -124,7 +123,7 @@ struct Contents {
 
 // Reads a file, as far as the room goes. A folder is opened and can't be read.
 fn read_file(file: &mut impl Read, room: &mut [u8]) -> Contents
-    ensures { IsPrefixLen result.have room.new }
+    ensures { (result.have ≤ length room.new) × (result.have ≡ length (take result.have room.new)) }
 {
     match ais_reading::read_full(file, room) {
         Ok(have) => Contents {

@@ -1,0 +1,9 @@
+-- Each part is above the one before.
+use Rattle.std.proofs.Common.{◌-◌, ◌≤◌}
+use Rattle.ais_bits.proofs.answers.put_parts.Given as goal
+
+abbrev pub invariant-loop-bit : goal.invariant-loop-bit
+invariant-loop-bit g l = l.bit ≤ 32
+
+abbrev pub decreases-loop-bit : goal.decreases-loop-bit
+decreases-loop-bit g l = 32 - l.bit

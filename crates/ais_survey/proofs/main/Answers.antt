@@ -1,0 +1,10 @@
+-- A line more leaves one line fewer, since the survey was not full.
+use Rattle.std.proofs.Common.{rules, ◌≡◌, false}
+use Rattle.survey.specs.rules.Survey.{is_full}
+use Rattle.survey.proofs.Ends.{one_fewer}
+use Rattle.ais_survey.proofs.main.Goals as goal
+
+pub loop-list-smaller : goal.loop-list-smaller
+loop-list-smaller c =
+    let more : is_full c.loop-list.survey ≡ false = search rules in
+    rw c.including-survey.ensures (one_fewer c.loop-list.survey c.image_named-image.result more)
