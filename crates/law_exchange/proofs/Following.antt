@@ -61,7 +61,7 @@ use Rattle.host_answers.specs.declared.Wait.{Wait}
 use Rattle.host_answers.specs.declared.Wait.TheVariants as wait
 use Rattle.law_exchange.proofs.Hearing.{ear_of, one_word_heard, checksum_heard, ends-with-checksum}
 use Rattle.law_exchange.proofs.Hearing.{newest_checksum}
-use Rattle.law_exchange.proofs.Levels.{Over, loader_over, rest_turns, Level, Rest, Followed, stopped_follows, on_follows, level_again}
+use Rattle.law_exchange.proofs.Levels.{loader_over, rest_turns, Level, Rest, Followed, stopped_follows, on_follows, level_again}
 use Rattle.law_exchange.proofs.Silence.{closing as closing-wait, ended_stays, ended_later, waits_end, meets_end}
 use Rattle.law_exchange.proofs.Stopping.{stops_entered}
 use Rattle.law_exchange.proofs.Scenes.{Scene, scene, advance, turns, by_turn, idle_turn, refused_turn}

@@ -1,5 +1,4 @@
 -- `agreement::compare` meets its contract: both memories are of zeros when they are lent, and what is compared is what the two sides left.
-use borrow.Author.Rules.{rules}
 use mathlib.Core.Path.{ap₂, ◌∙◌}
 use Rattle.agreement.specs.rules.Comparison.{difference_of, compared_of}
 use Rattle.agreement.proofs.Comparing.{same_compared}

@@ -1,8 +1,5 @@
 -- `agreement::count_differing` meets its contract: what is counted and what is left to count are all that differ.
-use Prim.Native.Nat.{◌+◌, ◌*◌, ◌≤◌}
-use mathlib.Core.Path.{◌≡◌}
 use native.Mathlib.Omega.{arith}
-use Rattle.agreement.specs.rules.Differing.{differing}
 use Rattle.agreement.proofs.Differing.{at_most_one, word_counted, none_left}
 use borrow.Author.Rules.{rules}
 use Rattle.agreement.proofs.count_differing.Goals as goal

@@ -1,10 +1,7 @@
 -- What each turn keeps.
 use Prim.Native.Nat.{◌+◌, ◌*◌, ◌≤◌}
 use mathlib.Core.Path.{◌≡◌}
-use native.Mathlib.Omega.{arith}
 use Rattle.agreement.specs.rules.Differing.{differing}
-use Rattle.agreement.proofs.Differing.{at_most_one, word_counted, none_left}
-use borrow.Author.Rules.{rules}
 use Rattle.agreement.proofs.count_differing.Given as goal
 
 abbrev pub invariant-loop-left : goal.invariant-loop-left

@@ -1,5 +1,4 @@
 -- `agreement::end_of` meets its contract: the code is the refusal's.
-use borrow.Author.Rules.{rules}
 use mathlib.Core.Path.{refl}
 use Rattle.agreement.proofs.end_of.Goals as goal
 

@@ -1,8 +1,6 @@
 -- `agreement::first_unlike` meets its contract: the first of the words that are left is the first of all.
-use Prim.Native.Nat.{◌+◌, ◌*◌}
-use mathlib.Core.Path.{◌≡◌, refl, sym, ◌∙◌}
+use mathlib.Core.Path.{refl, sym, ◌∙◌}
 use native.Mathlib.Omega.{arith}
-use Rattle.agreement.specs.rules.Differing.{first_unlike}
 use Rattle.agreement.proofs.Differing.{fails_at_one, holds_else, word_passed, word_found, past_all}
 use borrow.Author.Rules.{rules}
 use Rattle.agreement.proofs.first_unlike.Goals as goal

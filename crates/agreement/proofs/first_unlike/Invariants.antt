@@ -1,10 +1,7 @@
 -- What each turn keeps.
 use Prim.Native.Nat.{◌+◌, ◌*◌}
-use mathlib.Core.Path.{◌≡◌, refl, sym, ◌∙◌}
-use native.Mathlib.Omega.{arith}
+use mathlib.Core.Path.{◌≡◌}
 use Rattle.agreement.specs.rules.Differing.{first_unlike}
-use Rattle.agreement.proofs.Differing.{fails_at_one, holds_else, word_passed, word_found, past_all}
-use borrow.Author.Rules.{rules}
 use Rattle.agreement.proofs.first_unlike.Given as goal
 
 abbrev pub invariant-loop-left : goal.invariant-loop-left

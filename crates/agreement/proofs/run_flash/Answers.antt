@@ -1,5 +1,4 @@
 -- `agreement::run_flash` meets its contract: the image is opened in the check program's window and run.
-use borrow.Author.Rules.{rules}
 use mathlib.Core.Path.{refl}
 use Rattle.agreement.proofs.run_flash.Goals as goal
 

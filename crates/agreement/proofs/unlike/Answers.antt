@@ -1,5 +1,4 @@
 -- `agreement::unlike` meets its contract: by the test of the two words.
-use borrow.Author.Rules.{rules}
 use borrow.Author.Tests.{eq-eqb, ne_eqb}
 use mathlib.Core.Path.{sym, ◌∙◌}
 use Rattle.words.proofs.Choice.{chosen, passed}

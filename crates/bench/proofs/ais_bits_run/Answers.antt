@@ -1,5 +1,4 @@
 -- `bench::ais_bits_run` meets its contract: 19 for a dialect that there is not; else the run from the opening on the windows that the map's bytes hold.
-use borrow.Author.Rules.{rules}
 use mathlib.Core.Path.{refl}
 use Rattle.bench.proofs.BitRuns.{noted, run_unknown, run_known}
 use Rattle.bench.proofs.RunOffsets.{numbered_within}

@@ -1,5 +1,4 @@
 -- `bench::ais_flash_fetched` meets its contract: the run of the image, answered by the words fetched.
-use borrow.Author.Rules.{rules}
 use mathlib.Core.Path.{refl, ◌∙◌}
 use Rattle.words.proofs.Choice.{chosen}
 use Rattle.bench.proofs.ais_flash_fetched.Goals as goal

@@ -1,5 +1,4 @@
 -- `bench::ais_flash_run` meets its contract: the run of the image, answered by its report.
-use borrow.Author.Rules.{rules}
 use mathlib.Core.Path.{refl, ◌∙◌}
 use Rattle.words.proofs.Choice.{passed}
 use Rattle.bench.proofs.ais_flash_run.Goals as goal

@@ -1,5 +1,4 @@
 -- `bench::ais_hex_read` meets its contract: the number of the answer, and the room as it is left.
-use borrow.Author.Rules.{rules}
 use mathlib.Core.Path.{ap, ◌∙◌}
 use Rattle.opcodes.specs.rules.Answers.{code_of}
 use Rattle.bench.proofs.ais_hex_read.Goals as goal

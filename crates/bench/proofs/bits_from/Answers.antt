@@ -12,7 +12,6 @@ use Rattle.bench_sessions.specs.rules.Numbers.{barred}
 use Rattle.bench.specs.rules.Runs.{reported}
 use Rattle.bench.proofs.BitRuns.{noted, from_barred, from_run}
 use Rattle.bench.proofs.RunOffsets.{ran_at}
-use borrow.Author.Rules.{rules}
 use Rattle.bench.proofs.bits_from.Goals as goal
 
 pub returns-then-code-ne0 : goal.returns-then-code-ne0

@@ -1,5 +1,4 @@
 -- `bench::report` meets its contract: the four numbers are those of the answer.
-use borrow.Author.Rules.{rules}
 use Rattle.bench.specs.rules.Runs.{reported}
 use Rattle.bench.proofs.report.Goals as goal
 

@@ -1,5 +1,4 @@
 -- `bench::report_fetched` meets its contract: the count is below the refusal's unit, so that no shift and no sum wraps.
-use borrow.Author.Rules.{rules}
 use native.Mathlib.Omega.{arith}
 use Rattle.bench.specs.rules.Fetched.{fetched_report}
 use Rattle.bench.proofs.report_fetched.Goals as goal

@@ -1,5 +1,4 @@
 -- `bench::run_image` meets its contract: the run from the opening on the windows that the map's bytes hold; its offset fits its place in the report.
-use borrow.Author.Rules.{rules}
 use mathlib.Core.Path.{sym, ap, ◌∙◌}
 use Rattle.words.proofs.Choice.{chosen, passed}
 use Rattle.words.proofs.Numbers.{from_place}

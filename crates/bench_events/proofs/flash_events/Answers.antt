@@ -1,5 +1,4 @@
 -- `bench_events::flash_events` meets its contract: refused before it begins, or the run with its events told.
-use borrow.Author.Rules.{rules}
 use mathlib.Core.Path.{sym, ◌∙◌}
 use native.Mathlib.Omega.{arith}
 use Rattle.bench_events.proofs.Telling.{flash_unknown, flash_short, flash_ran}

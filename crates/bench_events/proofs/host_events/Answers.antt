@@ -1,7 +1,5 @@
 -- `bench_events::host_events` meets its contract: refused before it begins, or the exchange with its events told.
-use borrow.Author.Rules.{rules}
 use mathlib.Core.Path.{sym, ◌∙◌}
-use borrow.Author.Tests.{not-true, not-false}
 use Rattle.bench_events.proofs.Telling.{host_unnamed, host_short, host_barred, host_exchanged}
 use Rattle.bench_events.proofs.host_events.Goals as goal
 

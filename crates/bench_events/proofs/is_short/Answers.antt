@@ -1,5 +1,4 @@
 -- `bench_events::is_short` meets its contract: its test is the definition's.
-use borrow.Author.Rules.{rules}
 use Prim.Native.Nat.{ℕ}
 use mathlib.Core.Path.{ap}
 use lib.Dec.{ltb}

@@ -1,5 +1,4 @@
 -- `bench_events::room_for` meets its contract: it is the definition, and the product is small.
-use borrow.Author.Rules.{rules}
 use Prim.Native.Nat.{ℕ, ◌+◌, ◌*◌, ◌/◌}
 use mathlib.Core.Path.{ap}
 use native.Mathlib.Nat.{mul-le-mul}

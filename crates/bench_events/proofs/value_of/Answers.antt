@@ -1,5 +1,4 @@
 -- `bench_events::value_of` meets its contract: both parts fit one above the other.
-use borrow.Author.Rules.{rules}
 use native.Mathlib.Omega.{arith}
 use Rattle.bench_events.specs.rules.Events.{told_value}
 use Rattle.bench_events.proofs.value_of.Goals as goal

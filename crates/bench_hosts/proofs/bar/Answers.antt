@@ -1,7 +1,5 @@
 -- `bench_hosts::bar` meets its contract: each way is one case of the definition.
-use borrow.Author.Rules.{rules}
 use mathlib.Core.Path.{sym, ap, ap₂, ◌∙◌}
-use borrow.Author.Tests.{not-true, not-false}
 use Rattle.windows.specs.rules.Map.{good_map, kept_of}
 use Rattle.windows.specs.rules.Window.{sum_of}
 use Rattle.bench_hosts.proofs.Calls.{barred_call, barred_map, barred_memory, barred_none}

@@ -1,5 +1,4 @@
 -- `bench_hosts::entry_value` meets its contract: each arm is one case of the definition.
-use borrow.Author.Rules.{rules}
 use mathlib.Core.Path.{ap}
 use native.Mathlib.Omega.{arith}
 use Rattle.bench_hosts.specs.rules.HostCalls.{entry_value}

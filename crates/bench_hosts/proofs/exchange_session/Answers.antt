@@ -1,5 +1,4 @@
 -- `bench_hosts::exchange_session` meets its contract: refused before it begins, or the exchange.
-use borrow.Author.Rules.{rules}
 use mathlib.Core.Path.{sym, ◌∙◌}
 use Rattle.bench_hosts.proofs.Calls.{session_barred, exchanged_call}
 use Rattle.bench_hosts.proofs.exchange_session.Goals as goal

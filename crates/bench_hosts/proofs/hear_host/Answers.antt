@@ -1,5 +1,4 @@
 -- `bench_hosts::hear_host` meets its contract: another length, or the byte is heard.
-use borrow.Author.Rules.{rules}
 use mathlib.Core.Path.{refl, ◌∙◌}
 use Rattle.bench_hosts.proofs.Calls.{same_call, hears_nothing, heard_call}
 use Rattle.bench_hosts.proofs.hear_host.Goals as goal

@@ -1,7 +1,5 @@
 -- `bench_hosts::open_host` meets its contract: another length, line or dialect, or the opening.
-use borrow.Author.Rules.{rules}
 use mathlib.Core.Path.{refl, sym, ◌∙◌}
-use borrow.Author.Tests.{not-true, not-false}
 use Rattle.bench_hosts.proofs.Calls.{same_call, not_a_host, not_named, opened_call}
 use Rattle.bench_hosts.proofs.open_host.Goals as goal
 

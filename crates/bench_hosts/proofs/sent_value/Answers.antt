@@ -1,5 +1,4 @@
 -- `bench_hosts::sent_value` meets its contract: each arm is one case of the definition, and a stretch is a part of an image.
-use borrow.Author.Rules.{rules}
 use mathlib.Core.Path.{ap, subst}
 use native.Mathlib.Omega.{arith}
 use Rattle.bench_hosts.specs.rules.HostCalls.{sent_value}

@@ -1,5 +1,4 @@
 -- `bench_hosts::turn_host` meets its contract: another length, or the turn.
-use borrow.Author.Rules.{rules}
 use mathlib.Core.Path.{refl, ◌∙◌}
 use Rattle.bench_hosts.proofs.Calls.{same_call, no_turn, turned_call}
 use Rattle.bench_hosts.proofs.Outgoing.{each_in_image}

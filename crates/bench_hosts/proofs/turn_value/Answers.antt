@@ -1,5 +1,4 @@
 -- `bench_hosts::turn_value` meets its contract: the parts stand side by side.
-use borrow.Author.Rules.{rules}
 use native.Mathlib.Omega.{arith}
 use Rattle.bench_hosts.proofs.Calls.{flag_small}
 use Rattle.bench_hosts.proofs.turn_value.Goals as goal

@@ -1,5 +1,4 @@
 -- `bench_sessions::are_whole` meets its contract: every number is a multiple of 1.
-use borrow.Author.Rules.{rules}
 use Prim.Native.Nat.{◌%◌}
 use mathlib.Core.Path.{◌≡◌, sym, ap}
 use native.Mathlib.Omega.{arith}

@@ -1,7 +1,5 @@
 -- `bench_sessions::bar` meets its contract: each way is one test of the chain, after those before it.
-use borrow.Author.Rules.{rules}
 use mathlib.Core.Path.{sym, ◌∙◌}
-use borrow.Author.Tests.{not-true, not-false}
 use Rattle.bench_sessions.proofs.Barring.{bar_map, bar_chosen, bar_opening, bar_numbers, bar_memory, bar_none}
 use Rattle.bench_sessions.proofs.bar.Goals as goal
 

@@ -1,6 +1,5 @@
 -- `bench_sessions::bits_session` meets its contract: 19 for a line or a dialect that there is not; else the session with numbers from its opening, which has
 -- gathered nothing yet.
-use borrow.Author.Rules.{rules}
 use Prim.Native.Nat.{ℕ}
 use mathlib.Core.Path.{sym, ap, ◌∙◌}
 use Rattle.bench_sessions.specs.rules.Numbers.{watched}

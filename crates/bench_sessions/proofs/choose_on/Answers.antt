@@ -1,5 +1,4 @@
 -- `bench_sessions::choose_on` meets its contract: the choice on the windows that the map's bytes hold.
-use borrow.Author.Rules.{rules}
 use Rattle.bench_sessions.proofs.choose_on.Goals as goal
 
 pub returns : goal.returns

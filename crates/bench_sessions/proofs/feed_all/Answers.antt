@@ -1,16 +1,16 @@
 -- `bench_sessions::feed_all` meets its contract: what is left to feed, laid down from where the loop stands, gives the same end, and so do the numbers. The
 -- room is long enough since each unit fed pays for its part of a reply, and what is gathered of a word is not yet spent.
 use borrow.Author.Rules.{rules}
-use Prim.Native.Nat.{◌+◌, ◌-◌, ◌*◌, ◌≤◌, ◌<◌}
+use Prim.Native.Nat.{◌+◌, ◌*◌, ◌≤◌, ◌<◌}
 use mathlib.Core.Path.{◌≡◌, refl, sym, ◌∙◌}
 use native.Mathlib.Omega.{arith}
 use lib.Dec.{lit≤}
-use lib.ListN.{length, take, drop, get_or}
+use lib.ListN.{length, take, get_or}
 use Rattle.machine_answers.specs.rules.Replies.{sent_bytes}
 use Rattle.sent.specs.rules.Bus.{units_fed}
-use Rattle.bench_sessions.specs.rules.Feeding.{opening_room, unit_room}
+use Rattle.bench_sessions.specs.rules.Feeding.{unit_room}
 use Rattle.bench_sessions.proofs.Fitting.{one_more, nothing_held, step_pays, room_left, room_small}
-use Rattle.bench_sessions.proofs.Reaching.{leads, fed_turn, delivers}
+use Rattle.bench_sessions.proofs.Reaching.{fed_turn, delivers}
 use Rattle.bench_sessions.proofs.SessionCases.{units_count}
 use Rattle.bench_sessions.proofs.feed_all.Goals as goal
 

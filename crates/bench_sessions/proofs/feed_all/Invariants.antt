@@ -1,16 +1,10 @@
 -- What each turn keeps.
-use borrow.Author.Rules.{rules}
 use Prim.Native.Nat.{◌+◌, ◌-◌, ◌*◌, ◌≤◌, ◌<◌}
-use mathlib.Core.Path.{◌≡◌, refl, sym, ◌∙◌}
-use native.Mathlib.Omega.{arith}
-use lib.Dec.{lit≤}
-use lib.ListN.{length, take, drop, get_or}
-use Rattle.machine_answers.specs.rules.Replies.{sent_bytes}
+use mathlib.Core.Path.{◌≡◌}
+use lib.ListN.{length, take, drop}
 use Rattle.sent.specs.rules.Bus.{units_fed}
 use Rattle.bench_sessions.specs.rules.Feeding.{opening_room, unit_room}
-use Rattle.bench_sessions.proofs.Fitting.{one_more, nothing_held, step_pays, room_left, room_small}
-use Rattle.bench_sessions.proofs.Reaching.{leads, fed_turn, delivers}
-use Rattle.bench_sessions.proofs.SessionCases.{units_count}
+use Rattle.bench_sessions.proofs.Reaching.{leads}
 use Rattle.bench_sessions.proofs.feed_all.Given as goal
 
 abbrev pub invariant-loop-i : goal.invariant-loop-i

@@ -1,5 +1,4 @@
 -- `bench_sessions::first_of` meets its contract: each way is one side of the choice.
-use borrow.Author.Rules.{rules}
 use mathlib.Core.Path.{sym, ◌∙◌}
 use borrow.Author.Tests.{eq-eqb, ne_eqb}
 use Rattle.words.proofs.Choice.{chosen, passed}

@@ -1,7 +1,6 @@
 -- `bench_sessions::is_roomy` meets its contract: each test counts only where those before it hold.
-use borrow.Author.Rules.{rules}
 use mathlib.Core.Path.{sym, ◌∙◌}
-use borrow.Author.Tests.{le-leb, lt-leb, not-true, not-false}
+use borrow.Author.Tests.{le-leb, lt-leb}
 use Rattle.bench_sessions.specs.rules.Feeding.{roomy}
 use Rattle.bench_sessions.proofs.is_roomy.Goals as goal
 

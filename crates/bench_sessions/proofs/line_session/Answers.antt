@@ -1,5 +1,4 @@
 -- `bench_sessions::line_session` meets its contract: the session on the line that the number names; with another number nothing is touched.
-use borrow.Author.Rules.{rules}
 use Prim.Native.Nat.{ℕ}
 use mathlib.Core.Path.{sym, ap, ◌∙◌}
 use Rattle.bench_sessions.specs.rules.Feeding.{outcome}

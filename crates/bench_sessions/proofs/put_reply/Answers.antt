@@ -1,7 +1,7 @@
 -- `bench_sessions::put_reply` meets its contract: what is left of the reply, stored from where the loop stands, gives the same room; the loop stops
 -- where nothing is left.
 use borrow.Author.Rules.{rules}
-use Prim.Native.Nat.{ℕ, ◌+◌, ◌-◌, ◌≤◌}
+use Prim.Native.Nat.{ℕ, ◌+◌}
 use mathlib.Core.List.{List}
 use mathlib.Core.Path.{◌≡◌, refl, sym, ap, ◌∙◌}
 use native.Mathlib.Omega.{arith}

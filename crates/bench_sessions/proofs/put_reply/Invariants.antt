@@ -1,13 +1,8 @@
 -- What each turn keeps.
-use borrow.Author.Rules.{rules}
-use Prim.Native.Nat.{ℕ, ◌+◌, ◌-◌, ◌≤◌}
-use mathlib.Core.List.{List}
-use mathlib.Core.Path.{◌≡◌, refl, sym, ap, ◌∙◌}
-use native.Mathlib.Omega.{arith}
-use native.Mathlib.Nat.{add-zero}
-use lib.ListN.{length, take, drop, length-take}
+use Prim.Native.Nat.{◌+◌, ◌-◌, ◌≤◌}
+use mathlib.Core.Path.{◌≡◌}
+use lib.ListN.{length, take, drop}
 use lib.Seq.{sets}
-use Rattle.bench_sessions.proofs.Reaching.{byte_turn, all_stored}
 use Rattle.bench_sessions.proofs.put_reply.Given as goal
 
 abbrev pub invariant-loop-i : goal.invariant-loop-i

@@ -1,12 +1,10 @@
 -- `bench_sessions::session_from` meets its contract: each way is one case of the opening.
-use borrow.Author.Rules.{rules}
 use mathlib.Core.List.{List}
 use mathlib.Core.Logic.{◌≢◌}
 use mathlib.Core.Path.{sym, ap, ◌∙◌}
 use Prim.Native.Nat.{ℕ}
 use native.Mathlib.Omega.{arith}
 use lib.ListN.{length, take}
-use borrow.Author.Tests.{not-true, not-false}
 use Rattle.windows.specs.rules.Window.{sum_of}
 use Rattle.opcodes.specs.rules.Answers.{code_of}
 use Rattle.sent.specs.rules.Bus.{units_fed}

@@ -1,5 +1,4 @@
 -- `bench_sessions::session_on` meets its contract: the session from the opening, which has gathered nothing yet.
-use borrow.Author.Rules.{rules}
 use mathlib.Core.Path.{ap}
 use Rattle.bench_sessions.specs.rules.Numbers.{Watched}
 use Rattle.bench_sessions.proofs.Fitting.{opened_idle}

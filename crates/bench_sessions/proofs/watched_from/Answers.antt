@@ -1,5 +1,4 @@
 -- `bench_sessions::watched_from` meets its contract: barred, nothing is touched; else it is the session from its opening.
-use borrow.Author.Rules.{rules}
 use mathlib.Core.Path.{sym, ◌∙◌}
 use Rattle.bench_sessions.proofs.SessionCases.{watched_barred, watched_begun}
 use Rattle.bench_sessions.proofs.watched_from.Goals as goal

@@ -1,6 +1,5 @@
 -- `bit_watch::step_at` meets its contract: the step is the plain one, and what it tells that it wrote is stamped.
 use mathlib.Core.Path.{ap}
-use borrow.Author.Rules.{rules}
 use Rattle.sent.specs.declared.Answer.{Answer}
 use Rattle.bit_watch.proofs.Telling.{all_told, nothing_told, no_word_told}
 use Rattle.bit_watch.proofs.step_at.Goals as goal

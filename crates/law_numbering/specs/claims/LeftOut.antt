@@ -2,7 +2,6 @@
 use Rattle.std.specs.Prelude.{Bool, true, false}
 use Rattle.opcodes.specs.rules.Opcodes.{by_writing}
 use Rattle.opcodes.specs.declared.Command.{Command}
-use Rattle.opcodes.specs.declared.Command.TheVariants as command
 use Rattle.ledger.specs.declared.Totals.{Totals}
 use Rattle.commands.specs.rules.Wrote.{renumbered}
 use Rattle.commands.specs.declared.Wrote.{Wrote}

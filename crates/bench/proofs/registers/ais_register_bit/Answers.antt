@@ -1,5 +1,4 @@
 -- `bench::registers::ais_register_bit` meets its contract: by its two tests; else the line that is found is told.
-use borrow.Author.Rules.{rules}
 use mathlib.Core.Path.{sym, ap, ◌∙◌}
 use Rattle.bench.specs.rules.Registers.{Told, name_told}
 use Rattle.bench.proofs.RegisterCalls.{no_room, text_refused, answered}

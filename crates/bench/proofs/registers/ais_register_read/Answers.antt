@@ -1,5 +1,4 @@
 -- `bench::registers::ais_register_read` meets its contract: the text is read, and its value told.
-use borrow.Author.Rules.{rules}
 use Rattle.field_register.proofs.Bounds.{line_low}
 use Rattle.bench.proofs.registers.ais_register_read.Goals as goal
 

@@ -1,5 +1,4 @@
 -- `bench::registers::put_words` meets its contract: word by word.
-use borrow.Author.Rules.{rules}
 use Rattle.bench.specs.rules.Registers.{five_written}
 use Rattle.bench.proofs.registers.put_words.Goals as goal
 

@@ -1,5 +1,4 @@
 -- `bench::registers::read_value` meets its contract: by whether the text was refused.
-use borrow.Author.Rules.{rules}
 use mathlib.Core.Path.{sym, ◌∙◌}
 use native.Mathlib.Omega.{arith}
 use Rattle.bench.proofs.RegisterCalls.{value_count, value_refused}

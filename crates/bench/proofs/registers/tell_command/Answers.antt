@@ -1,5 +1,4 @@
 -- `bench::registers::tell_command` meets its contract: by whether the command was made.
-use borrow.Author.Rules.{rules}
 use mathlib.Core.Path.{sym, ap, ◌∙◌}
 use Rattle.bench.specs.rules.Registers.{Told}
 use Rattle.bench.proofs.RegisterCalls.{command_none, command_some}

@@ -1,5 +1,4 @@
 -- `bench::registers::tell_name` meets its contract: by whether a line was found.
-use borrow.Author.Rules.{rules}
 use mathlib.Core.Path.{ap, ◌∙◌}
 use borrow.Author.Tests.{not-true, not-false}
 use Rattle.bench.specs.rules.Registers.{Told}

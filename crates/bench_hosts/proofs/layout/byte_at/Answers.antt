@@ -1,5 +1,4 @@
 -- `bench_hosts::layout::byte_at` meets its contract: past the end `get_or` is its default.
-use borrow.Author.Rules.{rules}
 use mathlib.Core.Path.{sym}
 use lib.ListN.{get_or-eq_default}
 use Rattle.bench_hosts.proofs.layout.byte_at.Goals as goal

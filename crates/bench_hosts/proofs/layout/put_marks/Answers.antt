@@ -1,5 +1,4 @@
 -- `bench_hosts::layout::put_marks` meets its contract: byte by byte.
-use borrow.Author.Rules.{rules}
 use native.Mathlib.Omega.{arith}
 use Rattle.bench_hosts.proofs.layout.put_marks.Goals as goal
 

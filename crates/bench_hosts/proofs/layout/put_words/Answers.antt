@@ -1,5 +1,4 @@
 -- `bench_hosts::layout::put_words` meets its contract: word by word.
-use borrow.Author.Rules.{rules}
 use Rattle.bench_hosts.proofs.layout.put_words.Goals as goal
 
 pub returns : goal.returns

@@ -1,5 +1,4 @@
 -- `bench_hosts::layout::read_host` meets its contract: each part is what was read.
-use borrow.Author.Rules.{rules}
 use Rattle.bench_hosts.specs.rules.HostBytes.{read_host}
 use Rattle.bench_hosts.proofs.layout.read_host.Goals as goal
 

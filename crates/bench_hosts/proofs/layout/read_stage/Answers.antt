@@ -1,5 +1,4 @@
 -- `bench_hosts::layout::read_stage` meets its contract: each part is what was read.
-use borrow.Author.Rules.{rules}
 use Rattle.bench_hosts.proofs.layout.read_stage.Goals as goal
 
 pub returns : goal.returns

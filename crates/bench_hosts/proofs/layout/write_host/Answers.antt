@@ -1,5 +1,4 @@
 -- `bench_hosts::layout::write_host` meets its contract: all of a host, or nothing.
-use borrow.Author.Rules.{rules}
 use Rattle.bench_hosts.proofs.Laying.{not_laid, all_laid}
 use Rattle.bench_hosts.proofs.layout.write_host.Goals as goal
 

@@ -1,5 +1,4 @@
 -- `bench_sessions::maps::window_at` meets its contract: its three words are those of the window, and past the end each is 0.
-use borrow.Author.Rules.{rules}
 use Prim.Native.Nat.{ℕ, ◌+◌, ◌*◌, ◌≤◌}
 use mathlib.Core.List.{List}
 use mathlib.Core.Path.{◌≡◌, ap}

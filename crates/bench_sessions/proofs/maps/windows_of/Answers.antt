@@ -1,5 +1,4 @@
 -- `bench_sessions::maps::windows_of` meets its contract: window by window.
-use borrow.Author.Rules.{rules}
 use Rattle.bench_sessions.specs.rules.Map.{windows_of}
 use Rattle.bench_sessions.proofs.maps.windows_of.Goals as goal
 
