@@ -6,6 +6,7 @@ use Rattle.field_lines.proofs.is_in_force.Reads as force
 use Rattle.field_lines.proofs.has_bit.Reads as has-bit
 use Rattle.field_lines.proofs.has_name.Reads as has-name
 use Rattle.field_lines.proofs.clash.Reads as clash
+use Rattle.field_lines.proofs.find.Reads as find
 use Rattle.commands.proofs.too_wide.Reads as too_wide
 use Rattle.field_register.proofs.FieldRefusal.code.Reads as number
 use Rattle.field_register.proofs.read.Reads as read
@@ -42,6 +43,9 @@ has_name_unique κs a r s e f = same
 
 pub clash_unique : OneResult clash.Post
 clash_unique κs a r s e f = same
+
+pub find_unique : OneResult find.Post
+find_unique κs a r s e f = same
 
 -- commands
 pub too_wide_unique : OneResult too_wide.Post

@@ -428,7 +428,7 @@ perform_unique κs a r s e f = both_same
 pub take_word_unique : OneResultAndMemory take-word.Post (λ κs e. e.1.0.now)
 take_word_unique κs a r s e f = both_same
 
--- port: the routine over a lent session is proved by hand, and its contract is read as it stands in the source
+-- port: the contract of the routine over a lent session is read as it stands in the source
 pub port_feed_unique : (o : UnitOutcome) {s t : Session} {r q : Told} {m n : List ℕ} → is_given o s r m → is_given o t q n
     → (s ≡ t) × (r ≡ q) × (m ≡ n)
 port_feed_unique o a b = (same a.0 b.0, same a.1 b.1, same a.2 b.2)
