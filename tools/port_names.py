@@ -1,9 +1,10 @@
 #!/usr/bin/env python3
 """Brings the repository's own definitions and lemmas to snake case: run once at the top of a checkout, after the kit's port.py.
 
-A definition, lemma or field that specs/ or proofs/ declares in lowerCamelCase or with dashes gets underscores, everywhere: in specs/, proofs/, src/ and must-fail/,
-and, where they stand in backticks, in README.md and docs/. Where a definition and a lemma would fall together, the lemma keeps its dash or, in the places of APART, gets it back.
-What a function's own proof (proofs/F/Proof.antt) calls its answers stays, and so do functions of src/, files and modules.
+A definition, lemma or field that specs/ or proofs/ declares in lowerCamelCase or with dashes gets underscores, everywhere: in specs/, proofs/, src/ and
+must-fail/, and, where they stand in backticks, in README.md and docs/. Where a definition and a lemma would fall together, the lemma keeps its dash or,
+in the places of APART, gets it back. What a function's own proof (proofs/F/Proof.antt) calls its answers stays, and so do functions of src/, files and
+modules.
 """
 
 import collections

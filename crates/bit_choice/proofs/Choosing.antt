@@ -98,7 +98,8 @@ module _ (bytes : List ℕ) (count i : ℕ) where
     among_on a e = sym (ap (among a) next_word ∙ ap (λ (t : Bool). t || among a (left bytes count (i + 1))) (ne_eqb _ _ e))
 
     module _ (ws : List Window) where
-      next_fit : all_fit ws (left bytes count i) ≡ (may_be_chosen ws word && not (among word (left bytes count (i + 1))) && all_fit ws (left bytes count (i + 1)))
+      next_fit : all_fit ws (left bytes count i)
+          ≡ (may_be_chosen ws word && not (among word (left bytes count (i + 1))) && all_fit ws (left bytes count (i + 1)))
       unfolding all_fit
       next_fit = ap (all_fit ws) next_word
 

@@ -26,7 +26,8 @@ use Rattle.ledger.specs.declared.Happening.{Happening}
 use Rattle.reading.specs.rules.Reading.{present, words_from, past_words, argument, data_words, read_as, read_at}
 use Rattle.reading.specs.declared.Read.{Read}
 use Rattle.reading.specs.declared.Read.TheVariants as read
-use Rattle.commands.specs.rules.Commands.{barred, load_judged, unit_of, fill_judged, fill_done, fill_memory, shape_of, setting_judged, setting_done, setting_memory}
+use Rattle.commands.specs.rules.Commands.{barred, load_judged, unit_of, fill_judged, fill_done, fill_memory, shape_of, setting_judged, setting_done}
+use Rattle.commands.specs.rules.Commands.{setting_memory}
 use Rattle.commands.specs.rules.Commands.{sought_from}
 use Rattle.stores.specs.rules.Stores.{loaded}
 use Rattle.commands.specs.rules.Wrote.{none_wrote, bytes_wrote}
@@ -51,7 +52,8 @@ use Rattle.flash_session.specs.declared.Session.{Session}
 use Rattle.flash_runs.specs.rules.Entries.{number_wrote, call_entries, stamps_on, run_stamps}
 use Rattle.flash_runs.specs.rules.Run.{goes_on, carried_on, enough, run_of}
 use Rattle.bit_history.specs.claims.Accepted.{one, judged_one}
-use Rattle.bit_history.specs.claims.CallHistory.{accepted_command, accepted_row, added, call_history, history, entries_after, lent_in_turn, memory_after, lent_on}
+use Rattle.bit_history.specs.claims.CallHistory.{accepted_command, accepted_row, added, call_history, history, entries_after, lent_in_turn, memory_after}
+use Rattle.bit_history.specs.claims.CallHistory.{lent_on}
 use Rattle.bit_history.specs.claims.CallHistory.{CallsTell}
 use Rattle.bit_history.proofs.Agreeing.{Agrees, Told, Given, Inside, agrees_told, left_given, listed, setting_number, fit_one, fit_both, same_choice}
 

@@ -355,7 +355,8 @@ three_small a b c f g h (suc (suc zero)) = h
 three_small a b c f g h (suc (suc (suc i))) = lit< tt
 
 pub loads_tell : LoadsTell
-unfolding pick window.has_right window.inside window.grants_range window.place_from window.place_of window.sum_of range_judged load_judged word_step awaited following
+unfolding pick window.has_right window.inside window.grants_range window.place_from window.place_of window.sum_of range_judged load_judged word_step awaited
+    following
 loads_tell =
     record {
       whole = as_whole;

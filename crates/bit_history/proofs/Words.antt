@@ -26,7 +26,8 @@ use Rattle.opcodes.specs.declared.Refusal.TheVariants as refusal
 use Rattle.opcodes.proofs.Counts.{row_is, row-is}
 use Rattle.ledger.specs.rules.Totals.{counted, first_spent, is_spent, following, numbered, settled, turned}
 use Rattle.ledger.specs.declared.Totals.{Totals}
-use Rattle.commands.specs.rules.Commands.{barred, load_judged, unit_of, fill_judged, fill_done, fill_memory, shape_of, setting_judged, setting_done, setting_memory}
+use Rattle.commands.specs.rules.Commands.{barred, load_judged, unit_of, fill_judged, fill_done, fill_memory, shape_of, setting_judged, setting_done}
+use Rattle.commands.specs.rules.Commands.{setting_memory}
 use Rattle.commands.specs.rules.Wrote.{none_wrote, bytes_wrote, setting_wrote}
 use Rattle.commands.specs.declared.Done.{Done}
 use Rattle.commands.specs.declared.Judged.{Judged}

@@ -15,7 +15,8 @@ use Rattle.words.specs.declared.Unit.TheVariants.{Four}
 use Rattle.words.proofs.Choice.{chosen, passed}
 use Rattle.checksum.specs.rules.Checksum.{shifted, fed_bit, fed, fed_words}
 use Rattle.windows.specs.rules.Window.{has_right, inside, grants_range, place_from, place_of}
-use Rattle.commands.specs.rules.Commands.{multiple, range_judged, load_judged, unit_of, units_judged, fill_judged, fill_memory, memory_if, field_shape, shape_of}
+use Rattle.commands.specs.rules.Commands.{multiple, range_judged, load_judged, unit_of, units_judged, fill_judged, fill_memory, memory_if, field_shape}
+use Rattle.commands.specs.rules.Commands.{shape_of}
 use Rattle.commands.specs.rules.Commands.{too_wide, setting_judged, shape_set, setting_memory, target, sought_from}
 use Rattle.stores.specs.rules.Stores.{words_fed, load_fed, filled}
 use Rattle.commands.specs.declared.Judged.{Judged}

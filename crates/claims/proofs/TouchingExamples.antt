@@ -10,7 +10,8 @@ use Rattle.windows.specs.rules.Map.{sound_window, all_sound, rising, good_map, k
 use Rattle.windows.specs.declared.Window.{Window}
 use Rattle.windows.specs.declared.Place.TheVariants.{Nowhere}
 use Rattle.windows.specs.declared.Right.{Right}
-use Rattle.commands.specs.rules.Commands.{judged_code, multiple, range_judged, load_judged, unit_of, units_judged, fill_judged, fill_memory, field_shape, shape_of}
+use Rattle.commands.specs.rules.Commands.{judged_code, multiple, range_judged, load_judged, unit_of, units_judged, fill_judged, fill_memory, field_shape}
+use Rattle.commands.specs.rules.Commands.{shape_of}
 use Rattle.commands.specs.rules.Commands.{too_wide, setting_memory, entry_judged}
 use Rattle.stores.specs.rules.Stores.{filled}
 use Rattle.claims.specs.claims.MarkedExamples.{AllHold}

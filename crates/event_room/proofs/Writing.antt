@@ -79,7 +79,8 @@ place_whole size place (e ∷ es) h =
     let past = past_fitting size place (omega (arith, h)) in
     ap (λ (p : ℕ). place_after size p es) past ∙ place_whole size (place + 8) es (omega (arith, h)) ∙ omega arith
 
-pub room_whole : (room : List ℕ) (place : ℕ) (es : List Event) → place + 8 * length es ≤ length room → room_after room place es ≡ sets room place (event_bytes es)
+pub room_whole : (room : List ℕ) (place : ℕ) (es : List Event) → place + 8 * length es ≤ length room → room_after room place es
+    ≡ sets room place (event_bytes es)
 unfolding room_after
 room_whole room place [] h = refl
 room_whole room place (e ∷ es) h =

@@ -39,7 +39,12 @@ five_words (a ∷ b ∷ c ∷ d ∷ f ∷ g ∷ rest) e = absurd (omega arith)
 -- what a mode makes of a judgement
 pub record Makes (word value number : ℕ) (m : List ℕ) (makes : Judged → Outcome) : Type 0 where
   pub granted : (place : ℕ) → makes (Granted place)
-      ≡ record { refusal = refusal.None; event = Wait 0; wrote = setting_wrote (Granted place) word number; memory = setting_memory (Granted place) m word value }
+      ≡ record {
+        refusal = refusal.None;
+        event = Wait 0;
+        wrote = setting_wrote (Granted place) word number;
+        memory = setting_memory (Granted place) m word value;
+      }
   pub out_of_range : makes (Refused refusal.Range) ≡ record { refusal = refusal.Range; event = Nothing; wrote = none_wrote; memory = m }
   pub out-of-numbers : makes (Refused refusal.Number) ≡ record { refusal = refusal.Number; event = Nothing; wrote = none_wrote; memory = m }
 

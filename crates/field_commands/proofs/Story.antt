@@ -59,7 +59,8 @@ urgent release words becomes made over stands byte-is =
     }
 
 pub story_carried_out : StoryCarriedOut
-unfolding step_of read_at present argument looked_up rows row_serves found_in pick good_length multiple sum_of place_of place_from has_right inside range_judged unit_of
+unfolding step_of read_at present argument looked_up rows row_serves found_in pick good_length multiple sum_of place_of place_from has_right inside
+    range_judged unit_of
     units_judged field_shape shape_of too_wide setting_memory field_written field_fits fits put with_field word_at bytes_at number join byte
 story_carried_out =
     record {

@@ -15,7 +15,7 @@ use Rattle.windows.specs.rules.Window.{sum_of, place_of}
 use Rattle.windows.specs.declared.Window.{Window}
 use Rattle.windows.specs.declared.Place.TheVariants.{At}
 use Rattle.windows.specs.declared.Right.TheVariants.{Set}
-use Rattle.opcodes.specs.rules.Opcodes.{rows, row_serves, found_in as rowFound, looked_up}
+use Rattle.opcodes.specs.rules.Opcodes.{rows, row_serves, found_in as row_found, looked_up}
 use Rattle.opcodes.specs.declared.Command.TheVariants.{BootTable}
 use Rattle.opcodes.specs.declared.Found.TheVariants.{Known}
 use Rattle.opcodes.specs.declared.Dialect.{Dialect}
@@ -113,7 +113,7 @@ module _ (text name : List ℕ) (release value : ℕ) (words : List ℕ) (m : Ma
       never (sym h.word_is ∙ sym address, bits bit ∙ ap₂ ◌&&◌ (le-leb _ _ h.from) (le-leb _ _ h.to))
 
   boot : IsBootTable l value words
-  unfolding pick words_for looked_up rows row_serves rowFound
+  unfolding pick words_for looked_up rows row_serves row_found
   boot =
       record {
         five = sym (ap length of.words_are);

@@ -34,7 +34,8 @@ later_than_three (suc (suc (suc (suc i)))) h = absurd (omega arith)
 pub the_story : TheStory
 unfolding index_of pick too_wide lasts in_force has_bit share_release share_bit clash in_order parsed_if line_at stands closed_at value_at same within
     digit_value are_digits
-    number_of zero_leads is_decimal is_address are_letters is_name padded name_of type_word words_for command_of is_about answers found_in kept lines_in clashes read_from
+    number_of zero_leads is_decimal is_address are_letters is_name padded name_of type_word words_for command_of is_about answers found_in kept lines_in
+    clashes read_from
 the_story =
     record {
       good = refl;

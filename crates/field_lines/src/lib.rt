@@ -2,10 +2,11 @@
 #![tactic(auto)]
 
 ghost use Rattle.std.specs.Prelude.{◌&&◌, ◌≡◌, ◌+◌, ◌≤◌, ◌<◌, ◌^◌, length};
-ghost use Rattle.field_lines.specs.rules.Text.{same as sameBytes, zero_leads, decimal_of, address_of, no_name, name_of};
-ghost use Rattle.field_lines.specs.rules.Pairs.{stands as keyStands, closed_at, value_at, wrong as wrongPair, number_pair, decimal_pair, word_pair, field_pair};
-ghost use Rattle.field_lines.specs.rules.Lines.{in_order, no_line, malformed as notParsed, parsed_if, line_at};
-ghost use Rattle.field_lines.specs.rules.Clashes.{lasts as lineLasts, in_force, has_bit, share_release, share_bit, clash as linesClash};
+ghost use Rattle.field_lines.specs.rules.Text.{same as same_bytes, zero_leads, decimal_of, address_of, no_name, name_of};
+ghost use Rattle.field_lines.specs.rules.Pairs.{stands as key_stands, closed_at, value_at, wrong as wrong_pair, number_pair, decimal_pair};
+ghost use Rattle.field_lines.specs.rules.Pairs.{word_pair, field_pair};
+ghost use Rattle.field_lines.specs.rules.Lines.{in_order, no_line, malformed as not_parsed, parsed_if, line_at};
+ghost use Rattle.field_lines.specs.rules.Clashes.{lasts as line_lasts, in_force, has_bit, share_release, share_bit, clash as lines_clash};
 
 use digits::Number;
 
@@ -59,7 +60,7 @@ pub enum Value {
 
 // Are they the same bytes?
 fn same(a: &[u8], b: &[u8]) -> bool
-    ensures { result ≡ sameBytes a.now b.now }
+    ensures { result ≡ same_bytes a.now b.now }
 {
     if a.len() != b.len() {
         return false;
@@ -112,7 +113,7 @@ fn address(s: &[u8]) -> Number
 
 // Does a key stand at a place of the text?
 fn stands(text: &[u8], at: usize, key: &[u8]) -> bool
-    ensures { result ≡ keyStands text.now at key.now }
+    ensures { result ≡ key_stands text.now at key.now }
 {
     let n = key.len();
     if text.len() < n {
@@ -192,7 +193,7 @@ pub fn name_of(s: &[u8]) -> Name
 
 // A pair that is wrong.
 fn wrong() -> Pair
-    ensures { result ≡ wrongPair }
+    ensures { result ≡ wrong_pair }
 {
     Pair {
         good: false,
@@ -306,7 +307,7 @@ pub fn no_line() -> FieldLine
 
 // What stands where no line is read.
 fn malformed() -> Parsed
-    ensures { result ≡ notParsed }
+    ensures { result ≡ not_parsed }
 {
     let none = no_line();
     Parsed {
@@ -361,7 +362,7 @@ pub fn line_at(text: &[u8], at: usize) -> Parsed
 
 // Is a release none after the line's last?
 fn lasts(line: FieldLine, release: u32) -> bool
-    ensures { result ≡ lineLasts line release }
+    ensures { result ≡ line_lasts line release }
 {
     if line.until == 0 {
         return true;
@@ -394,7 +395,7 @@ pub fn has_bit(line: FieldLine, word: u32, bit: u32) -> bool
 
 // Does the line have a name?
 pub fn has_name(line: FieldLine, name: [u8; 16]) -> bool
-    ensures { result ≡ sameBytes line.name name }
+    ensures { result ≡ same_bytes line.name name }
 {
     let own = line.name;
     let other = name;
@@ -426,7 +427,7 @@ fn share_bit(a: FieldLine, b: FieldLine) -> bool
 
 // Do two lines clash?
 pub fn clash(a: FieldLine, b: FieldLine) -> bool
-    ensures { result ≡ linesClash a b }
+    ensures { result ≡ lines_clash a b }
 {
     if !share_release(a, b) {
         return false;

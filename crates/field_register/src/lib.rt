@@ -6,8 +6,8 @@ ghost use Rattle.field_lines.specs.declared.FieldLine.{FieldLine as LineOf};
 ghost use Rattle.commands.specs.rules.Commands.{width_of};
 ghost use Rattle.field_register.specs.rules.Refusals.{field_code};
 ghost use Rattle.field_register.specs.rules.Reading.{clashes, refused_at, reading_of};
-ghost use Rattle.field_register.specs.rules.Questions.{the_bit, the_name, is_about, answers as lineAnswers, none_found, found_in, asked, field_of, named_in};
-ghost use Rattle.field_register.specs.rules.Questions.{line_of_name, sooner as soonerOf, soonest as soonestOf, last_before as lastBeforeOf, stretch_from};
+ghost use Rattle.field_register.specs.rules.Questions.{the_bit, the_name, is_about, answers as line_answers, none_found, found_in, asked, field_of, named_in};
+ghost use Rattle.field_register.specs.rules.Questions.{line_of_name, sooner as sooner_of, soonest as soonest_of, last_before as last_before_of, stretch_from};
 ghost use Rattle.field_register.specs.rules.Commands.{words_for, not_made, command_of, command_for};
 
 use field_lines::{FieldLine, Name};
@@ -187,7 +187,7 @@ fn is_about(subject: Subject, line: FieldLine) -> bool
 
 // Is it, and in force in a release?
 fn answers(subject: Subject, release: u32, line: FieldLine) -> bool
-    ensures { result ≡ lineAnswers subject release line }
+    ensures { result ≡ line_answers subject release line }
 {
     if is_about(subject, line) {
         return field_lines::is_in_force(line, release);
@@ -255,7 +255,7 @@ pub fn line_of_name(register: Register, name: &[u8], release: u32) -> FoundLine
 
 // The sooner of a release, 0 for none, and the first release of a line about the subject that begins later than another.
 fn sooner(subject: Subject, release: u32, best: u32, line: FieldLine) -> u32
-    ensures { result ≡ soonerOf subject release best line }
+    ensures { result ≡ sooner_of subject release best line }
 {
     if !is_about(subject, line) {
         return best;
@@ -274,7 +274,7 @@ fn sooner(subject: Subject, release: u32, best: u32, line: FieldLine) -> u32
 
 // The first release later than another in which one of count lines about the subject begins, 0 for none.
 fn soonest(lines: [FieldLine; 200], count: usize, subject: Subject, release: u32) -> u32
-    ensures { result ≡ soonestOf subject release 0 (take count lines) }
+    ensures { result ≡ soonest_of subject release 0 (take count lines) }
 {
     let mut best: u32 = 0;
     let mut i: usize = 0;
@@ -291,7 +291,7 @@ fn soonest(lines: [FieldLine; 200], count: usize, subject: Subject, release: u32
 
 // The release before one; 0 where there is none.
 fn last_before(next: u32) -> u32
-    ensures { result ≡ lastBeforeOf next }
+    ensures { result ≡ last_before_of next }
 {
     if next == 0 {
         return 0;

@@ -1,5 +1,6 @@
 -- A digit and a word had back: each digit of a number is one of its parts of four bits, each byte one of eight, and these make the number.
-use Rattle.std.proofs.Common.{◌≡◌, ℕ, zero, suc, ◌+◌, ◌-◌, ◌*◌, ◌/◌, ◌%◌, ◌^◌, ◌<◌, true, List, [], ◌∷◌, ◌++◌, map, length, get_or, take, drop, sym, refl, ap, ◌∙◌, ap₂, mod-lt, mod-eq_of_lt, pow-suc, mul-suc, arith, lit<, length-drop, ext_get_or, pow-add}
+use Rattle.std.proofs.Common.{◌≡◌, ℕ, zero, suc, ◌+◌, ◌-◌, ◌*◌, ◌/◌, ◌%◌, ◌^◌, ◌<◌, true, List, [], ◌∷◌, ◌++◌, map, length, get_or, take, drop, sym, refl, ap}
+use Rattle.std.proofs.Common.{◌∙◌, ap₂, mod-lt, mod-eq_of_lt, pow-suc, mul-suc, arith, lit<, length-drop, ext_get_or, pow-add}
 use lib.Arith.{digits_div}
 use lib.ListN.{length-map, get_or-map}
 use lib.Pow.{mod-pow-add}

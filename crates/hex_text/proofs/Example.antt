@@ -10,7 +10,8 @@ use Rattle.hex_text.specs.claims.Example.{Example}
 use Rattle.hex_text.specs.rules.Text.{each_word, image_of, text_of, read_answer, write_answer, laid, left_by}
 
 pub example : Example
-unfolding join within byte number pick digit_value digit_of digit_at digits_of number_of bytes_of each_word image_of text_of are_digits read_answer write_answer laid left_by
+unfolding join within byte number pick digit_value digit_of digit_at digits_of number_of bytes_of each_word image_of text_of are_digits read_answer
+    write_answer laid left_by
 example =
     record {
       is_written = (refl, refl);

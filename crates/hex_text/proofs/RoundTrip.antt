@@ -1,5 +1,6 @@
 -- Text and image are had back from each other: word by word, and a room begins with what was laid into it.
-use Rattle.std.proofs.Common.{◌≡◌, ℕ, zero, suc, ◌+◌, ◌*◌, ◌/◌, ◌%◌, ◌<◌, ◌≤◌, true, List, [], ◌∷◌, map, length, get_or, take, drop, sym, refl, ap, ◌∙◌, map-id, arith, lit<, length-drop, length-take, get_or-drop, take_all, take_at}
+use Rattle.std.proofs.Common.{◌≡◌, ℕ, zero, suc, ◌+◌, ◌*◌, ◌/◌, ◌%◌, ◌<◌, ◌≤◌, true, List, [], ◌∷◌, map, length, get_or, take, drop, sym, refl, ap, ◌∙◌}
+use Rattle.std.proofs.Common.{map-id, arith, lit<, length-drop, length-take, get_or-drop, take_all, take_at}
 use lib.ListN.{length-map}
 use Rattle.words.specs.rules.Bytes.{number, bytes_at}
 use Rattle.opcodes.specs.rules.Answers.{code_of}

@@ -1,5 +1,6 @@
 -- Texts of digits and the numbers of their parts: each from the parts that a text is put together of.
-use Rattle.std.proofs.Common.{◌≡◌, ℕ, ◌+◌, ◌*◌, ◌^◌, ◌<◌, ◌≤◌, max, Bool, true, false, ◌&&◌, eqb, List, ◌++◌, length, get_or, take, drop, sym, ap, ◌∙◌, arith, length-drop, length-take, drop-cons, drop-drop, take-add, ne_eqb}
+use Rattle.std.proofs.Common.{◌≡◌, ℕ, ◌+◌, ◌*◌, ◌^◌, ◌<◌, ◌≤◌, max, Bool, true, false, ◌&&◌, eqb, List, ◌++◌, length, get_or, take, drop, sym, ap, ◌∙◌, arith}
+use Rattle.std.proofs.Common.{length-drop, length-take, drop-cons, drop-drop, take-add, ne_eqb}
 use mathlib.Core.Bool.{and-false}
 use Rattle.words.specs.rules.Bytes.{bytes_at}
 use Rattle.words.specs.rules.Choice.{pick}

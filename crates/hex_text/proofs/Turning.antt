@@ -43,6 +43,7 @@ word_read text room n h = word_laid 8 read_word 4 four_bytes n text room h
 
 -- one word more of an image is written into the room
 pub word_written : (image room : List ℕ) (n : ℕ) → 8 * n + 8 ≤ length room
-    → sets (laid (each_word 4 written_word n image) room) (8 * n) (digits_of (number (bytes_at image (4 * n) 4))) ≡ laid (each_word 4 written_word (n + 1) image) room
+    → sets (laid (each_word 4 written_word n image) room) (8 * n) (digits_of (number (bytes_at image (4 * n) 4)))
+    ≡ laid (each_word 4 written_word (n + 1) image) room
 unfolding bytes_at
 word_written image room n h = word_laid 4 written_word 8 eight_digits n image room h

@@ -1,6 +1,7 @@
 -- A list turned word by word: how long it is, how one word more is laid into the room, and what is left when it is turned back. Both directions, text to
 -- image and image to text, are instances. By induction over the words.
-use Rattle.std.proofs.Common.{◌≡◌, ℕ, zero, suc, ◌+◌, ◌*◌, ◌<◌, ◌≤◌, List, ◌++◌, map, length, take, drop, sym, refl, ap, ◌∙◌, ap₂, append_assoc, append-nil, add_comm, mul-zero, mul-suc, add-one, arith, length-append, length-drop, drop-drop, take_at, take-add, drop_at}
+use Rattle.std.proofs.Common.{◌≡◌, ℕ, zero, suc, ◌+◌, ◌*◌, ◌<◌, ◌≤◌, List, ◌++◌, map, length, take, drop, sym, refl, ap, ◌∙◌, ap₂, append_assoc, append-nil}
+use Rattle.std.proofs.Common.{add_comm, mul-zero, mul-suc, add-one, arith, length-append, length-drop, drop-drop, take_at, take-add, drop_at}
 use mathlib.Core.List.{map-append}
 use lib.Seq.{take-append_seam, drop-append-add, sets, sets-eq}
 use Rattle.hex_text.specs.rules.Text.{each_word, laid}

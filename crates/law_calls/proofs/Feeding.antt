@@ -129,7 +129,8 @@ call_idle (on_line line dialect) map = opened_idle (line_of line) dialect (count
 call_idle (numbering line dialect listed numbers) map = numbered_idle (line_of line) (dialect_of dialect) (count_of map) (windows_of map)
 
 pub replies_small : (call : Call) (map m bytes room : List ℕ) → Feeds call map m bytes room
-    → length (sent_bytes (opening_of call map).reply ++ replied (answers (bus_of call) (begun (opening_of call map) m) (units_fed (bus_of call) bytes))) < 2 ^ 32
+    → length (sent_bytes (opening_of call map).reply ++ replied (answers (bus_of call) (begun (opening_of call map) m) (units_fed (bus_of call) bytes)))
+    < 2 ^ 32
 replies_small call map m bytes room f =
     let bus = bus_of call in
     let o = opening_of call map in

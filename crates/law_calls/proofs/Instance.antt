@@ -18,7 +18,8 @@ use Rattle.opcodes.specs.rules.Opcodes.{rows, row_serves, found_in, looked_up}
 use Rattle.opcodes.specs.declared.Dialect.{Dialect}
 use Rattle.opcodes.specs.declared.Dialect.TheVariants.{Am17xx, Dm648}
 use Rattle.ledger.specs.rules.Totals.{is_past, following}
-use Rattle.commands.specs.rules.Commands.{multiple, range_judged, load_judged, unit_of, units_judged, field_shape, shape_of, too_wide, setting_done, setting_memory}
+use Rattle.commands.specs.rules.Commands.{multiple, range_judged, load_judged, unit_of, units_judged, field_shape, shape_of, too_wide, setting_done}
+use Rattle.commands.specs.rules.Commands.{setting_memory}
 use Rattle.stores.specs.rules.Stores.{loaded}
 use Rattle.bit_stamps.specs.rules.Stamps.{is_told, stamped_from, entry_at}
 use Rattle.bit_choice.specs.rules.Chosen.{addresses_from, may_be_chosen, among, all_fit, good_choice, word_place, places_of, choice_of}
@@ -27,7 +28,7 @@ use Rattle.sent.specs.rules.Feeding.{State, fed, answers, replied, first_of, fir
 use Rattle.sent.specs.rules.Line.{carried, start_answer, is_start, unit_step}
 use Rattle.sent.specs.rules.Opening.{opened_by, numbering_from}
 use Rattle.sent.specs.declared.Bus.TheVariants.{Bytes, Halves}
-use Rattle.machine_answers.specs.rules.Answers.{after as afterCommand}
+use Rattle.machine_answers.specs.rules.Answers.{after as after_command}
 use Rattle.machine_answers.specs.rules.Replies.{one_word, word_then, acknowledged}
 use Rattle.machine_loads.specs.rules.Loads.{awaited}
 use Rattle.machine.specs.rules.Machine.{acknowledging, word_step}
@@ -96,10 +97,14 @@ record AllComputed : Type 0 where
 
 all_computed : AllComputed
 unfolding bit join with_field within byte number bytes_at word_at put fits field_fits field_written pick feeding.shifted feeding.fed_bit feeding.fed
-    feeding.fed_words has_right inside grants_range place_from place_of sum_of sound_window all_sound rising good_map kept_of rows row_serves found_in looked_up multiple
-    range_judged load_judged loaded unit_of units_judged field_shape shape_of too_wide setting_done setting_memory is_past following is_told stamped_from entry_at
-    addresses_from some may_be_chosen among all_fit good_choice word_place places_of choice_of halves_of pushed carried start_answer is_start unit_step afterCommand
-    awaited one_word word_then acknowledged acknowledging word_step opened_by numbering_from fed answers replied first_of first_refused entries_after fed_from roomy
+    feeding.fed_words has_right inside grants_range place_from place_of sum_of sound_window all_sound rising good_map kept_of rows row_serves found_in
+    looked_up multiple
+    range_judged load_judged loaded unit_of units_judged field_shape shape_of too_wide setting_done setting_memory is_past following is_told stamped_from
+    entry_at
+    addresses_from some may_be_chosen among all_fit good_choice word_place places_of choice_of halves_of pushed carried start_answer is_start unit_step
+    after_command
+    awaited one_word word_then acknowledged acknowledging word_step opened_by numbering_from fed answers replied first_of first_refused entries_after fed_from
+    roomy
     refused_before session_from line_session window_at windows_of count_of numbers_from barred watched_from line_of dialect_of bits_session start_to all_words
 all_computed =
     record {

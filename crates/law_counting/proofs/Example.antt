@@ -17,7 +17,7 @@ use Rattle.flash_session.specs.rules.Opening.{good_length}
 use Rattle.flash_session.specs.rules.Sessions.{counted_on, after}
 use Rattle.flash_commands.specs.rules.Commands.{requested}
 use Rattle.flash.specs.rules.Step.{step_of}
-use Rattle.machine_answers.specs.rules.Answers.{after as afterCommand}
+use Rattle.machine_answers.specs.rules.Answers.{after as after_command}
 use Rattle.machine_commands.specs.rules.Performed.{echoing}
 use Rattle.machine.specs.rules.Machine.{acknowledging, word_step}
 use Rattle.sent.specs.rules.Bus.{pushed}
@@ -33,15 +33,18 @@ use Rattle.law_counting.specs.claims.InFlash as flash
 use Rattle.law_counting.specs.claims.OnLine as line
 
 worked_on_line : (bus : Bus) → WorkedOnLine bus
-unfolding join byte number bytes_at put pick has_right inside grants_range place_from place_of sum_of sound_window all_sound rising good_map kept_of rows row_serves
-    found_in looked_up multiple range_judged unit_of units_judged fill_judged fill_done fill_memory filled is_past following pushed carried is_start unit_step afterCommand
+unfolding join byte number bytes_at put pick has_right inside grants_range place_from place_of sum_of sound_window all_sound rising good_map kept_of rows
+    row_serves
+    found_in looked_up multiple range_judged unit_of units_judged fill_judged fill_done fill_memory filled is_past following pushed carried is_start unit_step
+    after_command
     echoing acknowledging word_step opened_by numbering_from fed ends_word line.word_acts line.acts_of fed_reached
 worked_on_line Bytes = record { acts = refl; stands = refl; next_number = refl }
 worked_on_line Halves = record { acts = refl; stands = refl; next_number = refl }
 
 pub worked : Worked
 unfolding pick join number bytes_at word_at has_right inside grants_range place_from place_of sum_of rows row_serves found_in looked_up is_past is_other
-    multiple range_judged unit_of units_judged fill_judged fill_done entry_judged close_done target sought_from good_length counted_on present argument read_at after
+    multiple range_judged unit_of units_judged fill_judged fill_done entry_judged close_done target sought_from good_length counted_on present argument
+    read_at after
     requested step_of account numbers_told sound_window all_sound rising good_map kept_of flash_opening.opened_by flash_opening.numbering_from
     flash.call_acts flash.acts_of
 worked = record { account_now = refl; account_numbers = refl; on_line = worked_on_line; in-flash = refl; flash_now = refl }

@@ -179,7 +179,8 @@ module _ (bus : Bus) (dialect : Dialect) (windows : List Window) (m image : List
 
   last_echo : advance image (echoed_scene pings 0) ≡ ready
   last_echo =
-      idle_turn image (at (wait.Echo pings) (heard_by nothing_heard (sent_bytes (one_word (echo pings))))) (at wait.Nothing nothing_heard) (at_word (echoes 0) m) []
+      idle_turn image (at (wait.Echo pings) (heard_by nothing_heard (sent_bytes (one_word (echo pings))))) (at wait.Nothing nothing_heard)
+      (at_word (echoes 0) m) []
       (echo_right pings (omega arith) ∙ passed _ _ _ (le-ltb pings pings (omega arith)))
 
   all_echoes : (left k : ℕ) → k + left ≡ pings → turns image (suc left) (echoed_scene k left) ≡ ready

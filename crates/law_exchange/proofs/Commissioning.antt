@@ -55,10 +55,14 @@ record Runs (dialect : Dialect) : Type 0 where
   beyond_bytes : all_small (beyond dialect) ≡ true
 
 runs : (dialect : Dialect) → Runs dialect
-unfolding pick join with_field number bytes_at word_at byte put fits field_fits field_written has_right inside grants_range place_from place_of sum_of sound_window
-    all_sound rising good_map kept_of rows row_serves found_in looked_up is_past is_other following multiple range_judged load_judged unit_of units_judged fill_judged
-    fill_done entry_judged close_done target sought_from field_shape shape_of too_wide setting_done setting_memory loaded good_length counted_on present words_from argument
-    read_at after load_at requested step_of opened_by goes_on carried_on run_of ran_from events_on run_events events_from feeding.shifted feeding.fed_bit feeding.fed
+unfolding pick join with_field number bytes_at word_at byte put fits field_fits field_written has_right inside grants_range place_from place_of sum_of
+    sound_window
+    all_sound rising good_map kept_of rows row_serves found_in looked_up is_past is_other following multiple range_judged load_judged unit_of units_judged
+    fill_judged
+    fill_done entry_judged close_done target sought_from field_shape shape_of too_wide setting_done setting_memory loaded good_length counted_on present
+    words_from argument
+    read_at after load_at requested step_of opened_by goes_on carried_on run_of ran_from events_on run_events events_from feeding.shifted feeding.fed_bit
+    feeding.fed
     feeding.fed_words words_fed load_fed filled fill_memory bit all_small
 runs Am17xx = record { enters = refl; no_mismatch = refl; retried = refl; waits = refl; set = refl; plain_bytes = refl; beyond_bytes = refl }
 runs Dm648 = record { enters = refl; no_mismatch = refl; retried = refl; waits = refl; set = refl; plain_bytes = refl; beyond_bytes = refl }
@@ -103,7 +107,8 @@ none_at_all : (n : ℕ) (dialect : Dialect) (image : List ℕ) → length image 
     → (k words : ℕ) → read_at image (4 * k) dialect ≢ Whole SequentialRead words
 none_at_all n dialect image long none k words e =
     true≢false
-    (ap is_passed (sym e) ∙ by_test (ltb k n) (λ t. none_there n k dialect image (ltb-true k n t) none) (λ t. past_end k n dialect image long (ltb-false k n t)))
+    (ap is_passed (sym e) ∙ by_test (ltb k n) (λ t. none_there n k dialect image (ltb-true k n t) none)
+    (λ t. past_end k n dialect image long (ltb-false k n t)))
 
 -- how many words the plain image has
 abbrev words_in : Dialect → ℕ
@@ -155,8 +160,10 @@ record Entries : Type 0 where
   small : all_small entering ≡ true
 
 entries : Entries
-unfolding pick join number bytes_at word_at byte has_right inside grants_range place_from place_of sum_of sound_window all_sound rising good_map kept_of rows row_serves
-    found_in looked_up is_past is_other multiple range_judged unit_of units_judged entry_judged close_done good_length counted_on present words_from argument read_at after
+unfolding pick join number bytes_at word_at byte has_right inside grants_range place_from place_of sum_of sound_window all_sound rising good_map kept_of rows
+    row_serves
+    found_in looked_up is_past is_other multiple range_judged unit_of units_judged entry_judged close_done good_length counted_on present words_from argument
+    read_at after
     step_of opened_by goes_on carried_on run_of ran_from events_on run_events events_from all_small
 entries = record { enters = refl; keeps = refl; enters_not = refl; keeps_ones = refl; small = refl }
 

@@ -83,7 +83,8 @@ module _ (line : OnTheLine) (bus : Bus) (image : List ℕ) (tries pings : ℕ) (
       let next = step_of o.answer.session o.memory image in
       let events : (es ++ told o.answer.event) ++ events_on n next image ≡ es ++ events_on (suc n) o image =
       append_assoc es (told o.answer.event) (events_on n next image) ∙ ap (λ (fs : List Event). es ++ fs) (sym (events_go image n o on)) in
-      let memory : (carried_on n next image).memory ≡ (carried_on (suc n) o image).memory = ap (λ (p : CallOutcome). p.memory) (sym (calls.goes image n o on)) in
+      let memory : (carried_on n next image).memory
+      ≡ (carried_on (suc n) o image).memory = ap (λ (p : CallOutcome). p.memory) (sym (calls.goes image n o on)) in
       record {
         count = f.count + later.count;
         few = omega (arith, f.few, later.few);

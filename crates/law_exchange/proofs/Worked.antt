@@ -57,8 +57,10 @@ all-small Am17xx = refl
 all-small Dm648 = refl
 
 flash_it : FlashEntersIt
-unfolding pick join number bytes_at word_at byte has_right inside grants_range place_from place_of sum_of sound_window all_sound rising good_map kept_of rows row_serves
-    found_in looked_up is_past is_other multiple range_judged unit_of units_judged entry_judged close_done good_length counted_on present argument read_at after step_of
+unfolding pick join number bytes_at word_at byte has_right inside grants_range place_from place_of sum_of sound_window all_sound rising good_map kept_of rows
+    row_serves
+    found_in looked_up is_past is_other multiple range_judged unit_of units_judged entry_judged close_done good_length counted_on present argument read_at
+    after step_of
     opened_by goes_on carried_on run_of ran_from
 flash_it = refl
 
@@ -70,9 +72,12 @@ record Runs (dialect : Dialect) : Type 0 where
       ≡ 10 ∷ 0 ∷ 0 ∷ 0 ∷ 11 ∷ 0 ∷ 0 ∷ 0 ∷ 12 ∷ 0 ∷ 0 ∷ 0 ∷ []
 
 runs : (dialect : Dialect) → Runs dialect
-unfolding pick join number bytes_at word_at byte put has_right inside grants_range place_from place_of sum_of sound_window all_sound rising good_map kept_of rows row_serves
-    found_in looked_up is_past is_other following multiple range_judged load_judged unit_of units_judged fill_judged fill_done entry_judged close_done target sought_from
-    loaded good_length counted_on present words_from argument read_at after load_at requested step_of opened_by goes_on carried_on run_of ran_from events_on run_events
+unfolding pick join number bytes_at word_at byte put has_right inside grants_range place_from place_of sum_of sound_window all_sound rising good_map kept_of
+    rows row_serves
+    found_in looked_up is_past is_other following multiple range_judged load_judged unit_of units_judged fill_judged fill_done entry_judged close_done target
+    sought_from
+    loaded good_length counted_on present words_from argument read_at after load_at requested step_of opened_by goes_on carried_on run_of ran_from events_on
+    run_events
     events_from feeding.shifted feeding.fed_bit feeding.fed feeding.fed_words words_fed load_fed filled fill_memory bit
 runs Am17xx = record { retried = refl; events = refl; loads = refl }
 runs Dm648 = record { retried = refl; events = refl; loads = refl }
@@ -110,10 +115,13 @@ record Spoiled : Type 0 where
   changed_events : (onward (talked 5 (begun 3) entering) another).events ≡ Enter 0x10800004 ∷ []
 
 spoiled : Spoiled
-unfolding pick join number bytes_at word_at byte has_right inside grants_range place_from place_of sum_of sound_window all_sound rising good_map kept_of rows row_serves
+unfolding pick join number bytes_at word_at byte has_right inside grants_range place_from place_of sum_of sound_window all_sound rising good_map kept_of rows
+    row_serves
     found_in looked_up is_past is_other multiple range_judged unit_of units_judged entry_judged close_done good_length present argument read_at
-    sent.opened_by start_answer is_start unit_step carried pushed fed answers replied events_heard first_of word_step machine.after machine.entered acknowledging
-    echoing one_word word_then acknowledged hearing newest ends_with ends_with_checksum heard heard_all host.opened_by is_part again answered_by echo_heard words_to
+    sent.opened_by start_answer is_start unit_step carried pushed fed answers replied events_heard first_of word_step machine.after machine.entered
+    acknowledging
+    echoing one_word word_then acknowledged hearing newest ends_with ends_with_checksum heard heard_all host.opened_by is_part again answered_by echo_heard
+    words_to
     turned first_but_ended onward talked
 spoiled =
     record {

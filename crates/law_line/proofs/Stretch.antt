@@ -41,7 +41,8 @@ bytes_length (w ∷ ws) = omega (arith, bytes_length ws)
 stretch_bytes : (image : List ℕ) (at n : ℕ) → AreBytes image → at + 4 * n ≤ length image → bytes_at image at (4 * n) ≡ words_bytes (words_at image at n)
 stretch_bytes image at n bytes there =
     let count : (4 * n + 3) / 4 ≡ n = omega arith in
-    sym (subst (λ (k : ℕ). take (4 * n) (words_bytes (words_at image at k)) ≡ bytes_at image at (4 * n)) count (data-bytes image bytes (4 * n) at (omega arith)))
+    sym (subst (λ (k : ℕ). take (4 * n) (words_bytes (words_at image at k))
+    ≡ bytes_at image at (4 * n)) count (data-bytes image bytes (4 * n) at (omega arith)))
     ∙ take_all (4 * n) _ (omega (arith, bytes_length (words_at image at n), words_length image n at))
 
 -- the bytes of words, lent on a line, are the words' units

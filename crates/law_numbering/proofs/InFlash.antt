@@ -33,7 +33,8 @@ use Rattle.ledger.proofs.Agreement.{never_numbers, numbers_stay}
 use Rattle.reading.specs.rules.Reading.{present, words_from, past_words, argument, data_words, read_as, read_at}
 use Rattle.reading.specs.declared.Read.{Read}
 use Rattle.reading.specs.declared.Read.TheVariants as read
-use Rattle.commands.specs.rules.Commands.{barred, done_if, load_judged, fill_judged, fill_done, fill_memory, setting_judged, setting_done, setting_memory, entry_judged}
+use Rattle.commands.specs.rules.Commands.{barred, done_if, load_judged, fill_judged, fill_done, fill_memory, setting_judged, setting_done, setting_memory}
+use Rattle.commands.specs.rules.Commands.{entry_judged}
 use Rattle.commands.specs.rules.Commands.{close_done, sought_from}
 use Rattle.commands.specs.rules.Wrote.{none_wrote, bytes_wrote, setting_wrote}
 use Rattle.commands.specs.declared.Done.{Done}
@@ -44,7 +45,7 @@ use Rattle.commands.specs.declared.Sought.TheVariants as sought
 use Rattle.commands.specs.declared.Wrote.{Wrote}
 use Rattle.commands.proofs.Judging.{Passes, barred_passes, load_passes, fill_passes, setting_passes, entry_passes}
 use Rattle.flash_session.specs.rules.Opening.{opened_by, numbering_from}
-use Rattle.flash_laws.specs.claims.Reached.{Reached, opened, called, opening_of, numbering as isNumbering}
+use Rattle.flash_laws.specs.claims.Reached.{Reached, opened, called, opening_of, numbering as is_numbering}
 use Rattle.flash_laws.proofs.Calls.{every_call}
 use Rattle.flash_session.specs.rules.Sessions.{CallOutcome, ◌leaving◌, go_to, with_totals, fetching, stopped, accepted_as, after}
 use Rattle.flash_commands.specs.claims.Ways.{happening, Way, forward, back, kept}
@@ -152,7 +153,8 @@ module _ (s : Session) (h : Happening) (wrote : Judged → ℕ → Wrote) (alike
 
 module _ (m image : List ℕ) where
   module _ (s : Session) where
-    load_plain : (next address size place : ℕ) → plain_outcome (load_done s m image next address size place) ≡ load_done (plain s) m image next address size place
+    load_plain : (next address size place : ℕ) → plain_outcome (load_done s m image next address size place)
+        ≡ load_done (plain s) m image next address size place
     load_plain next address size place =
         let whole : CallOutcome = load_done (plain s) m image next address size place in
         ap (λ (t : Totals). retold whole.answer t leaving whole.memory) (counted_alike s.dialect s.totals size)
@@ -231,16 +233,16 @@ module _ (m image : List ℕ) where
     close_beside next address sections bytes =
         let totals : Standing = standing sections bytes in
         let at : Bool → Judged = λ t. barred t refusal.Totals (entry_judged s.windows address) in
-        let doneBy : Bool → Done = λ t. done_if (at t) s.checksum (event.Enter address) s.checksum in
+        let done_by : Bool → Done = λ t. done_if (at t) s.checksum (event.Enter address) s.checksum in
         let differ : Bool = differs s.dialect s.totals totals in
         free
-        (after_not s happened.Other none_wrote (doneBy differ) next
+        (after_not s happened.Other none_wrote (done_by differ) next
         (done_not (at differ) s.checksum s.checksum (event.Enter address)
         (barred_passes Other differ refusal.Totals (entry_judged s.windows address) (other refusal.Totals refl refl)
         (entry_passes Other each_other s.windows address))))
         (ap (λ (a : Called). entered a leaving m)
-        ((after_plain s happened.Other none_wrote (doneBy differ) next).told
-        ∙ ap (λ (t : Bool). after (plain s) happened.Other none_wrote (doneBy t) next) (differs_alike s.dialect s.totals totals)))
+        ((after_plain s happened.Other none_wrote (done_by differ) next).told
+        ∙ ap (λ (t : Bool). after (plain s) happened.Other none_wrote (done_by t) next) (differs_alike s.dialect s.totals totals)))
 
     performed_beside : (c : Command) (next : ℕ) → Beside (is_spent s.totals) (takes c) (performed c next s m image) (performed c next (plain s) m image)
     performed_beside command.Load next = load-judged next (argument image s.offset 0) (argument image s.offset 1)
@@ -331,7 +333,7 @@ opened_none dialect count windows image limit =
     let None : Opened → Type 0 = λ o. KeepsNone o.session.totals in
     of_choice None _ (λ e. (refl, refl)) (λ e. of_choice None _ (λ e. (refl, refl)) (λ e. of_choice None _ (λ e. (refl, refl)) (λ e. (refl, refl))))
 
-reached_none : {s : Session} (reached : Reached s) → isNumbering reached ≡ false → KeepsNone s.totals
+reached_none : {s : Session} (reached : Reached s) → is_numbering reached ≡ false → KeepsNone s.totals
 unfolding pick
 reached_none (opened true dialect count windows image limit) e = absurd (true≢false e)
 reached_none (opened false dialect count windows image limit) e = opened_none dialect count windows image limit
@@ -361,7 +363,7 @@ numbering_some o =
     of_choice SomeIf (accepted o.refusal) {a = record { refusal = o.refusal; session = with_totals o.session (from_one o.session.totals) }} {b = o}
     (λ h e. numbers_stay.opening o.session.totals) (λ stopped e. absurd (false≢true (sym stopped ∙ eq-eqb _ _ (ap code_of e))))
 
-reached_some : {s : Session} (reached : Reached s) → isNumbering reached ≡ true → (opening_of reached).refusal ≡ refusal.None → HasNumbers s.totals
+reached_some : {s : Session} (reached : Reached s) → is_numbering reached ≡ true → (opening_of reached).refusal ≡ refusal.None → HasNumbers s.totals
 unfolding pick
 reached_some (opened true dialect count windows image limit) e sound = numbering_some (opened_by dialect count windows image limit) sound
 reached_some (opened false dialect count windows image limit) e sound = absurd (false≢true e)

@@ -30,7 +30,8 @@ use Rattle.ledger.specs.claims.Agreement.{KeepsNone}
 use Rattle.ledger.specs.rules.Totals.{standing, would_pass, differs, is_spent, numbered, turned}
 use Rattle.ledger.specs.declared.Totals.{Totals}
 use Rattle.ledger.proofs.Agreement.{never_numbers}
-use Rattle.commands.specs.rules.Commands.{barred, done_if, load_judged, fill_judged, fill_done, fill_memory, setting_judged, setting_done, setting_memory, entry_judged}
+use Rattle.commands.specs.rules.Commands.{barred, done_if, load_judged, fill_judged, fill_done, fill_memory, setting_judged, setting_done, setting_memory}
+use Rattle.commands.specs.rules.Commands.{entry_judged}
 use Rattle.commands.specs.rules.Commands.{close_done}
 use Rattle.commands.specs.rules.Wrote.{none_wrote, bytes_wrote, setting_wrote}
 use Rattle.commands.specs.declared.Done.{Done}
@@ -57,7 +58,7 @@ use Rattle.machine_answers.specs.declared.Phase.{Phase}
 use Rattle.machine_answers.specs.declared.Phase.TheVariants as phase
 use Rattle.sent.specs.declared.Session.{Session}
 use Rattle.machine_answers.specs.declared.Taken.{Taken}
-use Rattle.sent_laws.specs.claims.Reached.{Reached, opened, stepped, numbering as isNumbering}
+use Rattle.sent_laws.specs.claims.Reached.{Reached, opened, stepped, numbering as is_numbering}
 use Rattle.law_numbering.specs.claims.LeftOut.{unnumbered, by_any, takes}
 use Rattle.law_numbering.specs.claims.OnLine.{plain, plainly, plain_outcome, plain_session, plain_unit, plain_state, takes_at, takes_in, OutOfNumbers}
 use Rattle.law_numbering.specs.claims.OnLine.{NoneSpent, ButNumbers, OnLine}
@@ -252,19 +253,19 @@ module _ (k : Core) (m : List ℕ) where
     close_last =
         let address : ℕ = close_address k.dialect kept word in
         let judged : Judged = entry_judged k.windows address in
-        let doneBy : Bool → Done = λ t. done_if (barred t refusal.Totals judged) k.tally.checksum (event.Enter address) k.tally.checksum in
+        let done_by : Bool → Done = λ t. done_if (barred t refusal.Totals judged) k.tally.checksum (event.Enter address) k.tally.checksum in
         let differ : Bool = differs k.dialect k.tally.totals (standing kept.third word) in
         let t : Totals = k.tally.totals in
         free
-        (λ q. after_not k t (doneBy differ)
+        (λ q. after_not k t (done_by differ)
         (done_not (barred differ refusal.Totals judged) k.tally.checksum k.tally.checksum (event.Enter address)
         (barred_passes Other differ refusal.Totals judged (other refusal.Totals refl refl) (entry_passes Other each_other k.windows address)))
-        (sym (ap code_of (entered_refusal (after k t (doneBy differ)))) ∙ q))
+        (sym (ap code_of (entered_refusal (after k t (done_by differ)))) ∙ q))
         (ap (λ (a : Taken). a leaving m)
-        (entered_plain (after k t (doneBy differ))
+        (entered_plain (after k t (done_by differ))
         ∙ ap entered
-        ((after_plain k t (unnumbered t) refl (doneBy differ)).told
-        ∙ ap (λ (d : Bool). after (plain k) (unnumbered t) (doneBy d)) (differs_alike k.dialect t (standing kept.third word)))))
+        ((after_plain k t (unnumbered t) refl (done_by differ)).told
+        ∙ ap (λ (d : Bool). after (plain k) (unnumbered t) (done_by d)) (differs_alike k.dialect t (standing kept.third word)))))
 
     performed_beside : (c : Command) → Beside (is_spent k.tally.totals) (takes c) (performed c k m kept word) (performed c (plain k) m kept word)
     performed_beside command.Load = load_last
@@ -429,7 +430,7 @@ opened_none : (bus : Bus) (dialect : Dialect) (count : ℕ) (windows : List Wind
 unfolding opened_by
 opened_none bus dialect count windows = of_choice (λ (o : Opened). KeepsNone o.session.core.tally.totals) _ (λ e. (refl, refl)) (λ e. (refl, refl))
 
-reached_none : {bus : Bus} {s : Session} (reached : Reached bus s) → isNumbering reached ≡ false → KeepsNone s.core.tally.totals
+reached_none : {bus : Bus} {s : Session} (reached : Reached bus s) → is_numbering reached ≡ false → KeepsNone s.core.tally.totals
 unfolding pick
 reached_none (opened true dialect count windows) e = absurd (true≢false e)
 reached_none {bus} (opened false dialect count windows) e = opened_none bus dialect count windows

@@ -119,7 +119,8 @@ some_pieces windows (b ∷ bs) cs p =
 
 module _ (bus : Bus) (windows : List Window) (dialect : Dialect) (on : Bool) where
   -- the words of several commands stamp what they tell
-  several_stamp : (places : List ℕ) (cs : List Piece) (entries : List ℕ) (begun : Bool) (tally : Tally) (m : List ℕ) → length m ≡ sum_of windows → AllSendable cs
+  several_stamp : (places : List ℕ) (cs : List Piece) (entries : List ℕ) (begun : Bool) (tally : Tally) (m : List ℕ) → length m ≡ sum_of windows
+      → AllSendable cs
       → AllGranted windows cs → AllFit dialect tally.totals cs
       → entries_after bus places entries (awaiting windows dialect on begun tally m) (all_units bus (all_words cs))
       ≡ stamped_by entries places (wrotes_of windows dialect tally.totals cs)
@@ -227,7 +228,8 @@ module _ (bus : Bus) (windows : List Window) (dialect : Dialect) (on : Bool) whe
       sendable.1
       (subst (λ (y : State). NoneRefused bus y (all_units bus (all_words (c ∷ cs)))) left.leads r.accepted.following_accepted) in
       let own = wrotes_of windows dialect t (c ∷ cs) in
-      ap (entries_after bus places entries (awaiting windows dialect on begun (tallied 0 t) m)) (units_append bus (attempts_words attempts) (all_words (c ∷ cs)))
+      ap (entries_after bus places entries (awaiting windows dialect on begun (tallied 0 t) m))
+      (units_append bus (attempts_words attempts) (all_words (c ∷ cs)))
       ∙ entries_append bus places entries _ (all_units bus (attempts_words attempts)) (all_units bus (all_words (c ∷ cs)))
       ∙ ap₂ (λ (es : List ℕ) (x : State). entries_after bus places es x (all_units bus (all_words (c ∷ cs)))) (stamp.stamps places entries) left.leads
       ∙ several_stamp places (c ∷ cs) _ left.later (tallied 0 left.last) _ still sendable.1 granted.0 granted.1

@@ -24,7 +24,7 @@ use Rattle.bit_stamps.specs.rules.Stamps.{is_told, stamped_from, entry_at}
 use Rattle.sent.specs.rules.Bus.{all_units, pushed}
 use Rattle.sent.specs.rules.Feeding.{State, Heard, fed, answers}
 use Rattle.sent.specs.rules.Line.{carried, is_start, unit_step}
-use Rattle.machine_answers.specs.rules.Answers.{after as afterCommand}
+use Rattle.machine_answers.specs.rules.Answers.{after as after_command}
 use Rattle.machine.specs.rules.Machine.{acknowledging, word_step}
 use Rattle.sent.specs.rules.Opening.{opened_by, numbering_from}
 use Rattle.sent.specs.declared.Bus.{Bus}
@@ -66,8 +66,9 @@ record Computed (bus : Bus) (dialect : Dialect) : Type 0 where
 computed : (bus : Bus) (dialect : Dialect) → Computed bus dialect
 unfolding bit join with_field within byte number bytes_at put fits field_fits field_written pick feeding.shifted feeding.fed_bit feeding.fed
     feeding.fed_words has_right inside grants_range place_from place_of sum_of sound_window all_sound rising good_map kept_of rows row_serves found_in
-    looked_up multiple range_judged unit_of units_judged field_shape shape_of too_wide setting_done setting_memory is_past following is_told stamped_from entry_at pushed
-    carried is_start unit_step afterCommand acknowledging word_step opened_by numbering_from start_to fed all_words answers effect_of some_writes entries_after
+    looked_up multiple range_judged unit_of units_judged field_shape shape_of too_wide setting_done setting_memory is_past following is_told stamped_from
+    entry_at pushed
+    carried is_start unit_step after_command acknowledging word_step opened_by numbering_from start_to fed all_words answers effect_of some_writes entries_after
 computed Bytes Am17xx = search
 computed Bytes Dm648 = search
 computed Halves Am17xx = search

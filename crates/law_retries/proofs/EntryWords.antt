@@ -263,7 +263,8 @@ module _ (bus : Bus) (windows : List Window) (dialect : Dialect) (on : Bool) whe
     setting_writes : (word address value delay : ℕ) → Sendable (setting word address value delay) → {place : ℕ}
         → judged_of windows (setting word address value delay) ≡ Granted place → Room dialect tally.totals (write_of (setting word address value delay))
         → Writes bus (awaiting windows dialect on begun tally m) (all_units bus (words_of (setting word address value delay)))
-        (awaiting windows dialect on true (tally_of dialect on (setting word address value delay) tally) (memory_of windows (setting word address value delay) m))
+        (awaiting windows dialect on true (tally_of dialect on (setting word address value delay) tally)
+        (memory_of windows (setting word address value delay) m))
         (setting_wrote (Granted place) word (settled tally.totals).next ∷ [])
     unfolding pick done_at_last after setting_done setting_memory
     setting_writes word address value delay sendable granted fits =

@@ -22,13 +22,14 @@ use Rattle.windows.specs.rules.Map.{sound_window, all_sound, rising, good_map, k
 use Rattle.opcodes.specs.rules.Opcodes.{rows, row_serves, found_in, looked_up}
 use Rattle.ledger.specs.claims.Attempts.{Level}
 use Rattle.ledger.specs.rules.Totals.{is_past, following}
-use Rattle.commands.specs.rules.Commands.{multiple, range_judged, load_judged, unit_of, units_judged, field_shape, shape_of, too_wide, setting_done, setting_memory}
+use Rattle.commands.specs.rules.Commands.{multiple, range_judged, load_judged, unit_of, units_judged, field_shape, shape_of, too_wide, setting_done}
+use Rattle.commands.specs.rules.Commands.{setting_memory}
 use Rattle.stores.specs.rules.Stores.{loaded}
 use Rattle.sent.specs.rules.Bus.{start_unit, all_units, pushed}
 use Rattle.sent.specs.rules.Feeding.{State, Heard, checksum, totals, next, heard, fed, answers, NoneRefused}
 use Rattle.words.specs.rules.Bytes.{AreBytes}
 use Rattle.sent.specs.rules.Line.{carried, is_start, unit_step}
-use Rattle.machine_answers.specs.rules.Answers.{after as afterCommand}
+use Rattle.machine_answers.specs.rules.Answers.{after as after_command}
 use Rattle.machine_loads.specs.rules.Loads.{awaited}
 use Rattle.machine.specs.rules.Machine.{acknowledging, word_step}
 use Rattle.sent.specs.rules.Opening.{opened_by, numbering_from}
@@ -117,9 +118,11 @@ record Computed (numbers : Bool) (bus : Bus) (dialect : Dialect) : Type 0 where
 computed : (numbers : Bool) (bus : Bus) (dialect : Dialect) → Computed numbers bus dialect
 unfolding bit join with_field within byte number bytes_at put fits field_fits field_written pick feeding.shifted feeding.fed_bit feeding.fed
     feeding.fed_words has_right inside grants_range place_from place_of sum_of sound_window all_sound rising good_map kept_of rows row_serves found_in
-    looked_up multiple range_judged load_judged loaded unit_of units_judged field_shape shape_of too_wide setting_done setting_memory is_past pushed carried is_start
+    looked_up multiple range_judged load_judged loaded unit_of units_judged field_shape shape_of too_wide setting_done setting_memory is_past pushed carried
+    is_start
     unit_step
-    afterCommand awaited acknowledging word_step opened_by numbering_from following start_answer start_to fed all_words answers started_to effect_of some_writes
+    after_command awaited acknowledging word_step opened_by numbering_from following start_answer start_to fed all_words answers started_to effect_of
+    some_writes
 computed true Bytes Am17xx = search
 computed true Bytes Dm648 = search
 computed true Halves Am17xx = search
@@ -139,9 +142,11 @@ record ComputedTwice (bus : Bus) (dialect : Dialect) : Type 0 where
 computed_twice : (bus : Bus) (dialect : Dialect) → ComputedTwice bus dialect
 unfolding bit join with_field within byte number bytes_at put fits field_fits field_written pick feeding.shifted feeding.fed_bit feeding.fed
     feeding.fed_words has_right inside grants_range place_from place_of sum_of sound_window all_sound rising good_map kept_of rows row_serves found_in
-    looked_up multiple range_judged load_judged loaded unit_of units_judged field_shape shape_of too_wide setting_done setting_memory is_past pushed carried is_start
+    looked_up multiple range_judged load_judged loaded unit_of units_judged field_shape shape_of too_wide setting_done setting_memory is_past pushed carried
+    is_start
     unit_step
-    afterCommand awaited acknowledging word_step opened_by numbering_from following start_answer start_to fed all_words attempts_words attempts_pieces answers started_to
+    after_command awaited acknowledging word_step opened_by numbering_from following start_answer start_to fed all_words attempts_words attempts_pieces answers
+    started_to
     effect_of some_writes
 computed_twice Bytes Am17xx = search
 computed_twice Bytes Dm648 = search
@@ -170,7 +175,8 @@ record Against : Type 0 where
   awaits_requested : Awaits requested
   rewound_requested : checksum requested ≡ 0
   level_requested : Level (totals requested)
-  total_lost : eqb (sections_of (after Bytes requested (attempt_words nothing ++ all_words repeated))) (sections_of (after Bytes requested (all_words repeated)))
+  total_lost : eqb (sections_of (after Bytes requested (attempt_words nothing
+      ++ all_words repeated))) (sections_of (after Bytes requested (all_words repeated)))
       ≡ false
   awaits_unmarked : Awaits unmarked
   rewound_unmarked : checksum unmarked ≡ 0
@@ -197,9 +203,11 @@ record Against : Type 0 where
 against : Against
 unfolding bit join with_field within byte number bytes_at put fits field_fits field_written pick feeding.shifted feeding.fed_bit feeding.fed
     feeding.fed_words has_right inside grants_range place_from place_of sum_of sound_window all_sound rising good_map kept_of rows row_serves found_in
-    looked_up multiple range_judged load_judged loaded unit_of units_judged field_shape shape_of too_wide setting_done setting_memory is_past pushed carried is_start
+    looked_up multiple range_judged load_judged loaded unit_of units_judged field_shape shape_of too_wide setting_done setting_memory is_past pushed carried
+    is_start
     unit_step
-    afterCommand awaited acknowledging word_step opened_by numbering_from following start_to fed all_words answers middle requested unmarked set_once started_to
+    after_command awaited acknowledging word_step opened_by numbering_from following start_to fed all_words answers middle requested unmarked set_once
+    started_to
     short all_small
 against = record {
   after_missing = refl;
@@ -496,7 +504,8 @@ record Elsewhere : Type 0 where
   other_memory : elsewhere.memory ≡ replicate 8 0
 
 elsewhere_computed : Elsewhere
-unfolding byte pick sum_of sound_window all_sound rising good_map kept_of rows row_serves found_in looked_up pushed carried is_start unit_step acknowledging word_step
+unfolding byte pick sum_of sound_window all_sound rising good_map kept_of rows row_serves found_in looked_up pushed carried is_start unit_step acknowledging
+    word_step
     opened_by numbering_from start_to fed short elsewhere answered_there all_small
 elsewhere_computed = record {
   idle = record { running = refl; started = refl; fresh = refl; opcode = refl };

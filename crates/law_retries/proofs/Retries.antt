@@ -17,7 +17,7 @@ use Rattle.opcodes.specs.declared.Command.TheVariants as command
 use Rattle.opcodes.specs.declared.Dialect.{Dialect}
 use Rattle.opcodes.specs.declared.Dialect.TheVariants.{Am17xx, Dm648}
 use Rattle.opcodes.specs.declared.Event.TheVariants.{Nothing}
-use Rattle.ledger.specs.claims.Attempts.{Write, section, setting as noSection, wrote, wrote_all, Level, alone}
+use Rattle.ledger.specs.claims.Attempts.{Write, section, setting as no_section, wrote, wrote_all, Level, alone}
 use Rattle.ledger.specs.rules.Totals.{would_pass, counted, is_spent, numbered, settled, turned}
 use Rattle.ledger.specs.declared.Totals.{Totals}
 use Rattle.ledger.proofs.Attempts.{no_total_left, level_there}
@@ -85,12 +85,12 @@ first_not_alone (c ∷ cs) asked more t other = refl
 -- totals that settle to the same: what commands make of them is the same
 pub wrote_alike : (dialect : Dialect) (w : Write) (a b : Totals) → settled a ≡ settled b → wrote dialect a w ≡ wrote dialect b w
 wrote_alike dialect (section size) a b same = ap (λ (t : Totals). numbered (counted dialect t size)) same
-wrote_alike dialect noSection a b same = ap numbered same
+wrote_alike dialect no_section a b same = ap numbered same
 
 room_alike : (dialect : Dialect) (w : Write) (a b : Totals) → settled a ≡ settled b → Room dialect a w → Room dialect b w
 room_alike dialect (section size) a b same room =
     subst (λ (t : Totals). (would_pass dialect t size ≡ false) × (is_spent t ≡ false)) same room
-room_alike dialect noSection a b same room = subst (λ (t : Totals). is_spent t ≡ false) same room
+room_alike dialect no_section a b same room = subst (λ (t : Totals). is_spent t ≡ false) same room
 
 pub fit_alike : (dialect : Dialect) (c : Piece) (cs : List Piece) (a b : Totals) → settled a ≡ settled b → AllFit dialect a (c ∷ cs) → AllFit dialect b (c ∷ cs)
 unfolding AllFit

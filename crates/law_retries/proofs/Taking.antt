@@ -26,7 +26,7 @@ use Rattle.opcodes.specs.declared.Event.TheVariants.{Nothing, Wait}
 use Rattle.opcodes.specs.declared.Found.TheVariants.{Known}
 use Rattle.opcodes.specs.declared.Mode.TheVariants.{Sent}
 use Rattle.opcodes.specs.declared.Refusal.TheVariants as refusal
-use Rattle.ledger.specs.claims.Attempts.{Write, section, setting as noSection, wrote}
+use Rattle.ledger.specs.claims.Attempts.{Write, section, setting as no_section, wrote}
 use Rattle.ledger.specs.rules.Totals.{would_pass, is_spent, settled, turned}
 use Rattle.ledger.specs.declared.Totals.{Totals}
 use Rattle.commands.specs.rules.Commands.{load_judged, fill_judged, setting_judged, fill_done, fill_memory, setting_done, setting_memory, memory_if}
@@ -108,12 +108,12 @@ register_of on (setting word address value delay) checksum = checksum
 abbrev pub write_of : Piece → Write
 write_of (load address size contents) = section size
 write_of (fill address size kind pattern) = section size
-write_of (setting word address value delay) = noSection
+write_of (setting word address value delay) = no_section
 
 -- a section takes no total past the largest, and each command finds a number
 abbrev pub Room : Dialect → Totals → Write → Type 0
 Room dialect t (section size) = (would_pass dialect (settled t) size ≡ false) × (is_spent (settled t) ≡ false)
-Room dialect t noSection = is_spent (settled t) ≡ false
+Room dialect t no_section = is_spent (settled t) ≡ false
 
 -- checksum and totals after a command
 abbrev pub tally_of : Dialect → Bool → Piece → Tally → Tally

@@ -1,5 +1,6 @@
 -- The laws of the totals: each by whether a Request stands, or by computing.
-use Rattle.std.proofs.Common.{◌≡◌, ℕ, ◌+◌, ◌%◌, ◌^◌, ◌≤◌, Bool, true, false, not, ◌&&◌, ◌||◌, eqb, ltb, List, [], ◌∷◌, ◌++◌, sym, refl, ap, ◌∙◌, ap₂, true≢false, mod-eq_of_lt, arith, length-append, ltb-false, ne_eqb, eqb-true, leb-false}
+use Rattle.std.proofs.Common.{◌≡◌, ℕ, ◌+◌, ◌%◌, ◌^◌, ◌≤◌, Bool, true, false, not, ◌&&◌, ◌||◌, eqb, ltb, List, [], ◌∷◌, ◌++◌, sym, refl, ap, ◌∙◌, ap₂}
+use Rattle.std.proofs.Common.{true≢false, mod-eq_of_lt, arith, length-append, ltb-false, ne_eqb, eqb-true, leb-false}
 use Rattle.words.specs.rules.Choice.{pick}
 use Rattle.words.proofs.Choice.{chosen, passed, by_test, both}
 use Rattle.opcodes.specs.declared.Command.{Command}

@@ -12,7 +12,8 @@ halves_count [] = refl
 halves_count (low ∷ []) = refl
 halves_count (low ∷ high ∷ bytes) = omega (arith, halves_count bytes)
 
-pub half_at : (bytes : List ℕ) (i : ℕ) → i < length (halves_of bytes) → get_or (halves_of bytes) i 0 ≡ get_or bytes (2 * i) 0 + get_or bytes (2 * i + 1) 0 * 2 ^ 8
+pub half_at : (bytes : List ℕ) (i : ℕ) → i < length (halves_of bytes) → get_or (halves_of bytes) i 0
+    ≡ get_or bytes (2 * i) 0 + get_or bytes (2 * i + 1) 0 * 2 ^ 8
 unfolding halves_of
 half_at [] i h = absurd (omega arith)
 half_at (low ∷ []) i h = absurd (omega arith)

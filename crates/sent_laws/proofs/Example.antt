@@ -29,8 +29,10 @@ use Rattle.sent_laws.specs.claims.Reached.{opened}
 use Rattle.sent_laws.proofs.Lines.{both_lines}
 
 loads : (bus : Bus) → (fed bus (at_word fresh zeros) (all_units bus loading)).memory ≡ loaded_bytes
-unfolding bit join within byte number bytes_at put pick has_right inside grants_range place_from place_of sum_of sound_window all_sound rising good_map kept_of rows
-    row_serves found_in looked_up range_judged load_judged loaded following after awaited acknowledging word_step pushed carried is_start unit_step opened_by fed fresh
+unfolding bit join within byte number bytes_at put pick has_right inside grants_range place_from place_of sum_of sound_window all_sound rising good_map
+    kept_of rows
+    row_serves found_in looked_up range_judged load_judged loaded following after awaited acknowledging word_step pushed carried is_start unit_step opened_by
+    fed fresh
 loads Bytes = refl
 loads Halves = refl
 
@@ -46,7 +48,8 @@ taken_as_data =
 
 -- what each line makes of a word that is sent first
 pub start-byte-first : StartByteFirst
-unfolding byte pick sum_of sound_window all_sound rising good_map kept_of rows row_serves found_in looked_up acknowledging word_step pushed carried is_start unit_step
+unfolding byte pick sum_of sound_window all_sound rising good_map kept_of rows row_serves found_in looked_up acknowledging word_step pushed carried is_start
+    unit_step
     start_answer opened_by fed answers replied first_of first_refused fresh
 start-byte-first =
     record {
@@ -57,7 +60,8 @@ start-byte-first =
     }
 
 pub start-half-first : StartHalfFirst
-unfolding byte pick sum_of sound_window all_sound rising good_map kept_of rows row_serves found_in looked_up acknowledging word_step pushed carried is_start unit_step
+unfolding byte pick sum_of sound_window all_sound rising good_map kept_of rows row_serves found_in looked_up acknowledging word_step pushed carried is_start
+    unit_step
     start_answer opened_by fed answers replied first_of first_refused fresh
 start-half-first =
     record {

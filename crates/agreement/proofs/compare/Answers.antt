@@ -12,4 +12,8 @@ returns c =
     let talk = rw map at c.exchange-talked.ensures in
     let ends = c.compare_ends.ensures in
     let left = ap₂ difference_of run.memory_after talk.memory_after in
-    record { value = same_compared (ends.flash_value ∙ run.value) (ends.line_value ∙ talk.value) (ends.difference_value ∙ left); first_after = run.room_after; second_after = talk.room_after }
+    record {
+      value = same_compared (ends.flash_value ∙ run.value) (ends.line_value ∙ talk.value) (ends.difference_value ∙ left);
+      first_after = run.room_after;
+      second_after = talk.room_after;
+    }

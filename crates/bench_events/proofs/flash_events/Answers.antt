@@ -20,4 +20,5 @@ returns c =
     let a = c.args in
     flash_ran a.dialect a.map.now a.memory.now a.image.now a.limit a.room.now (omega (arith, c.if-dialect-gt1.false))
     (sym c.is_short.ensures ∙ c.if-is_short.false) c.dialect_of.ensures c.count_of.ensures
-    c.windows_of.ensures c.open-opened.ensures (let ran = c.run_told-ran.ensures in (ran.called_value, (ran.memory_after, (ran.told_value, ran.room_after)))) c.code.ensures c.value_of.ensures
+    c.windows_of.ensures c.open-opened.ensures (let ran = c.run_told-ran.ensures in (ran.called_value, (ran.memory_after, (ran.told_value, ran.room_after))))
+    c.code.ensures c.value_of.ensures

@@ -29,4 +29,5 @@ returns c =
     host_exchanged a.line a.dialect a.map.now a.memory.now a.image.now a.tries a.limit a.pings a.room.now
     (sym c.are_named.ensures ∙ c.if-not-are_named.false) (sym c.is_short.ensures ∙ c.if-is_short.false)
     c.bar-refusal.ensures (sym c.code.ensures ∙ c.if-code-ne0.false) c.line_of-bus.ensures c.dialect_of.ensures
-    c.count_of.ensures c.windows_of.ensures (let ended = c.exchange-exchanged.ensures in (ended.value, (ended.memory_after, ended.room_after))) c.value_of.ensures
+    c.count_of.ensures c.windows_of.ensures (let ended = c.exchange-exchanged.ensures in (ended.value, (ended.memory_after, ended.room_after)))
+    c.value_of.ensures

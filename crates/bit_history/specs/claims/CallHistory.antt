@@ -90,7 +90,8 @@ pub record CallsTell : Type 0 where
   pub told : (s : Session) (calls : List Lent) (places : List ℕ) (j k : ℕ) → j < length places → k < 32
       → entry_at (entries_after places (replicate (64 * length places) 0) s calls) j k ≡ last_number (history s calls) (chosen_bit places j k)
   -- a run's entries are those of its calls
-  pub run : (places entries : List ℕ) (s : Session) (m image : List ℕ) → run_entries places entries s m image ≡ entries_after places entries s (calls_of s m image)
+  pub run : (places entries : List ℕ) (s : Session) (m image : List ℕ) → run_entries places entries s m image
+      ≡ entries_after places entries s (calls_of s m image)
   -- a call gives memory exactly the bits that it tells, those of the command that it accepts
   pub call : (s : Session) (m image : List ℕ) → AsListed (call_history s m image) (step_of s m image).answer.wrote m (step_of s m image).memory
   -- so after any calls, whatever memory was lent to the first, each bit is what the last command that writes it gives, and what it was where none does

@@ -9,18 +9,30 @@ returns-then-wrote-eq0 c =
     let a = c.args in
     let step = c.step_at-answer in
     let same = ap (λ (x : Answer). x.wrote) step.ensures.value in
-    record { value = step.ensures.value; memory_after = step.ensures.memory_after; entries_after = nothing_told a.entries.now a.places.now a.count same c.if-wrote-eq0.true }
+    record {
+      value = step.ensures.value;
+      memory_after = step.ensures.memory_after;
+      entries_after = nothing_told a.entries.now a.places.now a.count same c.if-wrote-eq0.true;
+    }
 
 pub returns-then-count-eq0 : goal.returns-then-count-eq0
 returns-then-count-eq0 c =
     let a = c.args in
     let step = c.step_at-answer in
     let same = ap (λ (x : Answer). x.wrote) step.ensures.value in
-    record { value = step.ensures.value; memory_after = step.ensures.memory_after; entries_after = no_word_told a.entries.now a.places.now a.count same c.if-count-eq0.true }
+    record {
+      value = step.ensures.value;
+      memory_after = step.ensures.memory_after;
+      entries_after = no_word_told a.entries.now a.places.now a.count same c.if-count-eq0.true;
+    }
 
 pub returns : goal.returns
 returns c =
     let a = c.args in
     let step = c.step_at-answer in
     let same = ap (λ (x : Answer). x.wrote) step.ensures.value in
-    record { value = step.ensures.value; memory_after = step.ensures.memory_after; entries_after = all_told a.entries.now a.places.now a.count same c.stamp.ensures }
+    record {
+      value = step.ensures.value;
+      memory_after = step.ensures.memory_after;
+      entries_after = all_told a.entries.now a.places.now a.count same c.stamp.ensures;
+    }

@@ -18,4 +18,8 @@ pub returns-in-Refused : goal.returns-in-Refused
 unfolding setting_done setting_memory
 returns-in-Refused c =
     let a = c.args in
-    let refused = c.in-Refused.is in record { value = sym (ap (λ (j : Judged). setting_done j a.checksum a.delay) refused); memory_after = sym (ap (λ (j : Judged). setting_memory j a.memory.now a.word a.value) refused) }
+    let refused = c.in-Refused.is in
+    record {
+      value = sym (ap (λ (j : Judged). setting_done j a.checksum a.delay) refused);
+      memory_after = sym (ap (λ (j : Judged). setting_memory j a.memory.now a.word a.value) refused);
+    }

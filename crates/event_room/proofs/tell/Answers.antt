@@ -6,15 +6,20 @@ use Rattle.event_room.proofs.tell.Goals as goal
 
 pub returns-then-kind-eq0 : goal.returns-then-kind-eq0
 returns-then-kind-eq0 c =
-    let a = c.args in let parts = tells_nothing a.room.now a.place a.event (sym c.kind-kind.ensures ∙ c.if-kind-eq0.true) in record { value = parts.0; room_after = parts.1 }
+    let a = c.args in
+    let parts = tells_nothing a.room.now a.place a.event (sym c.kind-kind.ensures ∙ c.if-kind-eq0.true) in record { value = parts.0; room_after = parts.1 }
 
 pub returns-then-room-lt8 : goal.returns-then-room-lt8
 returns-then-room-lt8 c =
-    let a = c.args in let parts = tells_none a.room.now a.place a.event (λ e. c.if-kind-eq0.false (c.kind-kind.ensures ∙ e)) (omega arith) in record { value = parts.0; room_after = parts.1 }
+    let a = c.args in
+    let parts = tells_none a.room.now a.place a.event (λ e. c.if-kind-eq0.false (c.kind-kind.ensures ∙ e)) (omega arith) in
+    record { value = parts.0; room_after = parts.1 }
 
 pub returns-then-room-place : goal.returns-then-room-place
 returns-then-room-place c =
-    let a = c.args in let parts = tells_none a.room.now a.place a.event (λ e. c.if-kind-eq0.false (c.kind-kind.ensures ∙ e)) (omega arith) in record { value = parts.0; room_after = parts.1 }
+    let a = c.args in
+    let parts = tells_none a.room.now a.place a.event (λ e. c.if-kind-eq0.false (c.kind-kind.ensures ∙ e)) (omega arith) in
+    record { value = parts.0; room_after = parts.1 }
 
 pub returns : goal.returns
 returns c =

@@ -23,7 +23,8 @@ loop-live-preserved c =
     let loop = c.loop-live in (
       search rules,
       search rules,
-      λ end r. goes a.image.now a.room.now (loop.invariant.2 end r) (not-true _ c.loop-live-test.true) (on.ensures.value, (on.ensures.memory_after, on.ensures.room_after)),
+      λ end r. goes a.image.now a.room.now (loop.invariant.2 end r) (not-true _ c.loop-live-test.true)
+          (on.ensures.value, (on.ensures.memory_after, on.ensures.room_after)),
     )
 
 pub shape_of-memory : goal.shape_of-memory

@@ -6,4 +6,8 @@ pub returns : goal.returns
 unfolding standing_onward memory_onward room_onward
 returns c =
     let sent = c.send.ensures in
-    record { value = rw (c.take_turn.ensures, c.turn-turned.ensures) at sent.value; memory_after = rw (c.take_turn.ensures, c.turn-turned.ensures) at sent.memory_after; room_after = rw (c.take_turn.ensures, c.turn-turned.ensures) at sent.room_after }
+    record {
+      value = rw (c.take_turn.ensures, c.turn-turned.ensures) at sent.value;
+      memory_after = rw (c.take_turn.ensures, c.turn-turned.ensures) at sent.memory_after;
+      room_after = rw (c.take_turn.ensures, c.turn-turned.ensures) at sent.room_after;
+    }

@@ -3,7 +3,7 @@ use Prim.Native.Nat.{ℕ, ◌+◌, ◌-◌}
 use mathlib.Core.Path.{◌≡◌, ap, ◌∙◌}
 use native.Mathlib.Omega.{arith}
 use lib.ListN.{length, take, drop}
-use Rattle.field_lines.specs.rules.Text.{same as sameBytes}
+use Rattle.field_lines.specs.rules.Text.{same as same_bytes}
 use Rattle.field_lines.proofs.Values.{stands_past, stands_by}
 use Rattle.field_lines.proofs.stands.Goals as goal
 
@@ -18,5 +18,5 @@ returns c =
     let n = c.args.at + length c.args.key.now - c.args.at in
     let all : n ≡ length c.args.key.now = omega arith in
     c.same.ensures
-    ∙ ap (λ (k : ℕ). sameBytes (take k (drop c.args.at c.args.text.now)) c.args.key.now) all
+    ∙ ap (λ (k : ℕ). same_bytes (take k (drop c.args.at c.args.text.now)) c.args.key.now) all
     ∙ stands_by _ _ _ (omega arith)

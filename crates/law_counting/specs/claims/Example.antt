@@ -7,7 +7,7 @@ use Rattle.opcodes.specs.declared.Dialect.TheVariants.{Dm648}
 use Rattle.ledger.specs.claims.Account.{Act, section, asked, retry, enable, other, Count, opened as empty, account, numbers_told}
 use Rattle.ledger.specs.rules.Totals.{standing}
 use Rattle.flash_session.specs.declared.Session.{Session}
-use Rattle.flash_laws.specs.claims.Example.{windows as windowsInFlash, seeking, lent}
+use Rattle.flash_laws.specs.claims.Example.{windows as windows_in_flash, seeking, lent}
 use Rattle.flash_laws.specs.claims.Reached as reach
 use Rattle.flash_laws.specs.claims.Totals.{answer_to}
 use Rattle.sent.specs.rules.Bus.{start_unit, all_units}
@@ -58,5 +58,5 @@ pub record Worked : Type 0 where
   pub account_now : (account empty taken).now ≡ counting 2 8 2
   pub account_numbers : numbers_told empty taken ≡ 1 ∷ 2 ∷ 2 ∷ []
   pub on_line : (bus : Bus) → WorkedOnLine bus
-  pub in-flash : flash.acts_of (again (again (reach.opened true Dm648 1 windowsInFlash seeking 1))) ≡ section 4 ∷ retry ∷ []
+  pub in-flash : flash.acts_of (again (again (reach.opened true Dm648 1 windows_in_flash seeking 1))) ≡ section 4 ∷ retry ∷ []
   pub flash_now : (account empty (section 4 ∷ retry ∷ [])).now ≡ counting 0 0 0

@@ -106,7 +106,8 @@ module _ (bus : Bus) (s : Session) (m image : List ℕ) (k : Core) where
     pub running : asked.ended ≡ false
     pub awaits : asked.stage.phase ≡ Opcode
     pub begun : asked.begun ≡ true
-    pub opcode : Carries bus (at_word k m) (units_of bus opcode_here) (at_word asked m) (sent_bytes (word_then (acknowledged opcode_here) (one_word s.checksum))) []
+    pub opcode : Carries bus (at_word k m) (units_of bus opcode_here) (at_word asked m)
+        (sent_bytes (word_then (acknowledged opcode_here) (one_word s.checksum))) []
     -- a match: the call goes on past its two words, and the loader is there already
     pub match : argument image s.offset 0 ≡ s.checksum → GoesOnAt m image call_here (s.offset + 12) s.retries asked
     -- a mismatch with no retry left, or one that leads nowhere: the call is refused

@@ -188,7 +188,8 @@ pub record MemoryTooShort : Type 0 where
 -- before the attempt any memory may be lent: here too short a one, which is refused, and then zeros; the session is that of the worked instance, and so is the
 -- attempt on its memory
 unfoldable pub elsewhere : State
-elsewhere = fed Bytes (record { session = (next Bytes short (start_unit Bytes)).session; memory = replicate 8 0 }) (start_unit Bytes ∷ units_of Bytes enable_opcode)
+elsewhere = fed Bytes (record { session = (next Bytes short (start_unit Bytes)).session; memory = replicate 8 0 })
+    (start_unit Bytes ∷ units_of Bytes enable_opcode)
 
 pub record LentOtherwise : Type 0 where
   pub just_after : JustAfter Bytes elsewhere.session

@@ -47,16 +47,16 @@ pub record Leads (dialect : Dialect) (numbering : Bool) (a : Account) (before : 
 
 -- a choice by what a command is to the mark: an Enable, a Request, a Start-Over, or another
 abbrev pub by_mark : {A : Type 0} → Command → A → A → A → A → A
-by_mark command.Load enables requests startsOver rest = rest
-by_mark command.Fill enables requests startsOver rest = rest
-by_mark command.BootTable enables requests startsOver rest = rest
-by_mark command.Enable enables requests startsOver rest = enables
-by_mark command.Disable enables requests startsOver rest = rest
-by_mark command.Request enables requests startsOver rest = requests
-by_mark command.StartOver enables requests startsOver rest = startsOver
-by_mark command.JumpAndClose enables requests startsOver rest = rest
-by_mark command.Ping enables requests startsOver rest = rest
-by_mark command.SequentialRead enables requests startsOver rest = rest
+by_mark command.Load enables requests starts_over rest = rest
+by_mark command.Fill enables requests starts_over rest = rest
+by_mark command.BootTable enables requests starts_over rest = rest
+by_mark command.Enable enables requests starts_over rest = enables
+by_mark command.Disable enables requests starts_over rest = rest
+by_mark command.Request enables requests starts_over rest = requests
+by_mark command.StartOver enables requests starts_over rest = starts_over
+by_mark command.JumpAndClose enables requests starts_over rest = rest
+by_mark command.Ping enables requests starts_over rest = rest
+by_mark command.SequentialRead enables requests starts_over rest = rest
 
 -- an opcode that is taken by line; a load, a fill or a setting is not accepted yet
 abbrev pub opcode_act : Command → Act

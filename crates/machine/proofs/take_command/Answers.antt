@@ -8,7 +8,11 @@ pub returns-then-opens : goal.returns-then-opens
 returns-then-opens c =
     let opened = sym (chosen _ _ _ c.if-opens.true) in
     let core = c.begun_by.ensures ∙ chosen _ _ _ c.if-opens.true in
-    let done = rw core at c.advance-taken.ensures in record { value = rw done.value at c.acknowledge.ensures ∙ ap (λ (o : WordOutcome). o.answer) opened; memory_after = done.memory_after ∙ ap (λ (o : WordOutcome). o.memory) opened }
+    let done = rw core at c.advance-taken.ensures in
+    record {
+      value = rw done.value at c.acknowledge.ensures ∙ ap (λ (o : WordOutcome). o.answer) opened;
+      memory_after = done.memory_after ∙ ap (λ (o : WordOutcome). o.memory) opened;
+    }
 
 pub returns : goal.returns
 returns c =

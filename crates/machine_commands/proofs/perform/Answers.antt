@@ -92,7 +92,10 @@ pub returns-in-Ping : goal.returns-in-Ping
 returns-in-Ping c =
     let a = c.args in
     let known = c.in-Ping.is in
-    record { value = c.echo.ensures ∙ known-answer a.core a.memory.now a.kept a.word known; memory_after = known-memory a.core a.memory.now a.kept a.word known }
+    record {
+      value = c.echo.ensures ∙ known-answer a.core a.memory.now a.kept a.word known;
+      memory_after = known-memory a.core a.memory.now a.kept a.word known;
+    }
 
 pub returns-in-SequentialRead : goal.returns-in-SequentialRead
 returns-in-SequentialRead c =

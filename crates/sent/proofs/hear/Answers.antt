@@ -55,7 +55,10 @@ returns-then-line-last_unit c =
     let other = sym c.is_start.ensures ∙ c.if-is_start.false in
     let few = rw c.last_unit.ensures at c.if-line-last_unit.true in
     let case = unit_gathered a.bus a.session a.memory.now a.unit c.if-core.false lent other (not-false _ c.if-not-line.false) few in
-    record { value = told case (rw (c.silent-then-line-last_unit.ensures, c.gather-gathered.ensures, c.push-word.ensures) at c.tell-then-line-last_unit.ensures); memory_after = left_in case refl }
+    record {
+      value = told case (rw (c.silent-then-line-last_unit.ensures, c.gather-gathered.ensures, c.push-word.ensures) at c.tell-then-line-last_unit.ensures);
+      memory_after = left_in case refl;
+    }
 
 pub returns : goal.returns
 returns c =
@@ -64,4 +67,8 @@ returns c =
     let other = sym c.is_start.ensures ∙ c.if-is_start.false in
     let all = rw c.last_unit.ensures at c.if-line-last_unit.false in
     let case = unit_whole a.bus a.session a.memory.now a.unit c.if-core.false lent other (not-false _ c.if-not-line.false) all in
-    let step = word_step a.session.core a.memory.now (pushed a.bus a.session.line.word a.unit) in record { value = told case (rw (c.take_word.ensures.value, c.push-word.ensures) at c.carry.ensures ∙ carried_answer a.session step); memory_after = left_in case (rw c.push-word.ensures at c.take_word.ensures.memory_after ∙ carried_memory a.session step) }
+    let step = word_step a.session.core a.memory.now (pushed a.bus a.session.line.word a.unit) in
+    record {
+      value = told case (rw (c.take_word.ensures.value, c.push-word.ensures) at c.carry.ensures ∙ carried_answer a.session step);
+      memory_after = left_in case (rw c.push-word.ensures at c.take_word.ensures.memory_after ∙ carried_memory a.session step);
+    }

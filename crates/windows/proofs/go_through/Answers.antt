@@ -38,7 +38,8 @@ loop-i-preserved c =
       search rules,
       search rules,
       elim c.if-holds.branch [
-        | then-holds+else-end-reached+else-carries_on w ↦ place_broken given.windows c.loop-i.i (search rules) given.right given.address given.size c.loop-i.base _ w.end_of-reached.ensures
+        | then-holds+else-end-reached+else-carries_on w ↦ place_broken given.windows c.loop-i.i (search rules) given.right given.address given.size
+            c.loop-i.base _ w.end_of-reached.ensures
             (sym w.carries_on.ensures ∙ w.if-carries_on.false)
         | else-holds w ↦ place_not_held given.windows c.loop-i.i (search rules) given.right given.address given.size c.loop-i.base
             (sym c.holds.ensures ∙ w.if-holds.false)

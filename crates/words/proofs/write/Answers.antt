@@ -7,10 +7,14 @@ use Rattle.words.specs.rules.Bytes.{byte, put}
 use Rattle.words.proofs.write.Goals as goal
 
 pub returns-then-m-n : goal.returns-then-m-n
-returns-then-m-n c = let refused = write_refused c.args.m.now c.args.at c.args.unit c.args.value (omega arith) in record { value = refused.0; m_after = refused.1 }
+returns-then-m-n c =
+    let refused = write_refused c.args.m.now c.args.at c.args.unit c.args.value (omega arith) in
+    record { value = refused.0; m_after = refused.1 }
 
 pub returns-then-m-n-2 : goal.returns-then-m-n-2
-returns-then-m-n-2 c = let refused = write_refused c.args.m.now c.args.at c.args.unit c.args.value (omega arith) in record { value = refused.0; m_after = refused.1 }
+returns-then-m-n-2 c =
+    let refused = write_refused c.args.m.now c.args.at c.args.unit c.args.value (omega arith) in
+    record { value = refused.0; m_after = refused.1 }
 
 pub returns : goal.returns
 returns c =

@@ -9,10 +9,14 @@ use Rattle.words.proofs.Units.{size_within, unit_number, field_past_end, field_p
 use Rattle.words.proofs.write_field.Goals as goal
 
 pub returns-then-m-n : goal.returns-then-m-n
-returns-then-m-n c = let refused = field_past_end c.args.m.now c.args.at c.args.unit c.args.start c.args.width c.args.field (omega arith) in record { value = refused.0; m_after = refused.1 }
+returns-then-m-n c =
+    let refused = field_past_end c.args.m.now c.args.at c.args.unit c.args.start c.args.width c.args.field (omega arith) in
+    record { value = refused.0; m_after = refused.1 }
 
 pub returns-then-m-n-2 : goal.returns-then-m-n-2
-returns-then-m-n-2 c = let refused = field_past_end c.args.m.now c.args.at c.args.unit c.args.start c.args.width c.args.field (omega arith) in record { value = refused.0; m_after = refused.1 }
+returns-then-m-n-2 c =
+    let refused = field_past_end c.args.m.now c.args.at c.args.unit c.args.start c.args.width c.args.field (omega arith) in
+    record { value = refused.0; m_after = refused.1 }
 
 pub overflow_cast-bits : goal.overflow_cast-bits
 overflow_cast-bits c = omega (arith, size_within c.args.unit)
@@ -21,10 +25,14 @@ pub overflow_mul-bits : goal.overflow_mul-bits
 overflow_mul-bits c = omega (arith, size_within c.args.unit)
 
 pub returns-then-bits-start : goal.returns-then-bits-start
-returns-then-bits-start c = let refused = field_past_unit c.args.m.now c.args.at c.args.unit c.args.start c.args.width c.args.field (omega arith) in record { value = refused.0; m_after = refused.1 }
+returns-then-bits-start c =
+    let refused = field_past_unit c.args.m.now c.args.at c.args.unit c.args.start c.args.width c.args.field (omega arith) in
+    record { value = refused.0; m_after = refused.1 }
 
 pub returns-then-bits-start-2 : goal.returns-then-bits-start-2
-returns-then-bits-start-2 c = let refused = field_past_unit c.args.m.now c.args.at c.args.unit c.args.start c.args.width c.args.field (omega arith) in record { value = refused.0; m_after = refused.1 }
+returns-then-bits-start-2 c =
+    let refused = field_past_unit c.args.m.now c.args.at c.args.unit c.args.start c.args.width c.args.field (omega arith) in
+    record { value = refused.0; m_after = refused.1 }
 
 pub with_field-requires : goal.with_field-requires
 with_field-requires c = omega (arith, size_within c.args.unit)

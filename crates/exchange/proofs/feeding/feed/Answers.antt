@@ -23,7 +23,8 @@ loop-i-preserved c =
     let step = c.step_at-answer in
     let inside : loop.i < length units = omega (arith, test, loop.invariant.1) in
     let note = c.note-live in
-    let same = feeds a.bus loop.live loop.memory loop.room units loop.i inside step.ensures.value step.ensures.memory_after (note.ensures.value, note.ensures.room_after) in (
+    let same = feeds a.bus loop.live loop.memory loop.room units loop.i inside step.ensures.value step.ensures.memory_after
+    (note.ensures.value, note.ensures.room_after) in (
       omega (arith, test),
       loop.invariant.1,
       omega (arith, step.auto, loop.invariant.2),
@@ -44,4 +45,9 @@ returns c =
     let a = c.args in
     let units = units_fed a.bus a.fed.now in
     let loop = c.loop-i in
-    let end : loop.i ≡ length units = omega (arith, c.loop-i-test, loop.invariant.0, loop.invariant.1) in record { value = sym (all_fed (length loop.room) a.bus loop.live loop.memory units loop.i end) ∙ loop.invariant.4; memory_after = sym (all_laid a.bus loop.live loop.memory units loop.i end) ∙ loop.invariant.5; room_after = sym (all_told a.bus loop.live loop.memory loop.room units loop.i end) ∙ loop.invariant.6 }
+    let end : loop.i ≡ length units = omega (arith, c.loop-i-test, loop.invariant.0, loop.invariant.1) in
+    record {
+      value = sym (all_fed (length loop.room) a.bus loop.live loop.memory units loop.i end) ∙ loop.invariant.4;
+      memory_after = sym (all_laid a.bus loop.live loop.memory units loop.i end) ∙ loop.invariant.5;
+      room_after = sym (all_told a.bus loop.live loop.memory loop.room units loop.i end) ∙ loop.invariant.6;
+    }

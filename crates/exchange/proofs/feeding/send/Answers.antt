@@ -18,13 +18,15 @@ pub returns-in-Start : goal.returns-in-Start
 returns-in-Start c =
     let a = c.args in
     let known = c.in-Start.is in let parts = fed_as a.bus a.standing a.memory.now a.room.now (sym (ap (λ (x : Sending). units_sent a.bus x a.image.now) known))
-    (c.send_start.ensures.value, (c.send_start.ensures.memory_after, c.send_start.ensures.room_after)) in record { value = parts.0; memory_after = parts.1.0; room_after = parts.1.1 }
+    (c.send_start.ensures.value, (c.send_start.ensures.memory_after, c.send_start.ensures.room_after)) in
+    record { value = parts.0; memory_after = parts.1.0; room_after = parts.1.1 }
 
 pub returns-in-Word : goal.returns-in-Word
 returns-in-Word c =
     let a = c.args in
     let known = c.in-Word.is in let parts = fed_as a.bus a.standing a.memory.now a.room.now (sym (ap (λ (x : Sending). units_sent a.bus x a.image.now) known))
-    (c.send_word.ensures.value, (c.send_word.ensures.memory_after, c.send_word.ensures.room_after)) in record { value = parts.0; memory_after = parts.1.0; room_after = parts.1.1 }
+    (c.send_word.ensures.value, (c.send_word.ensures.memory_after, c.send_word.ensures.room_after)) in
+    record { value = parts.0; memory_after = parts.1.0; room_after = parts.1.1 }
 
 pub returns-in-Stretch : goal.returns-in-Stretch
 returns-in-Stretch c =
@@ -32,4 +34,6 @@ returns-in-Stretch c =
     let known = c.in-Stretch.is in
     let units = ap (λ (l : List ℕ). units_fed a.bus l) c.stretch.ensures
     ∙ ap (λ (x : Sending). units_fed a.bus (stretch_of x a.image.now)) known
-    ∙ sym (ap (λ (x : Sending). units_sent a.bus x a.image.now) known) in let parts = fed_as a.bus a.standing a.memory.now a.room.now units (c.feed.ensures.value, (c.feed.ensures.memory_after, c.feed.ensures.room_after)) in record { value = parts.0; memory_after = parts.1.0; room_after = parts.1.1 }
+    ∙ sym (ap (λ (x : Sending). units_sent a.bus x a.image.now) known) in
+    let parts = fed_as a.bus a.standing a.memory.now a.room.now units (c.feed.ensures.value, (c.feed.ensures.memory_after, c.feed.ensures.room_after)) in
+    record { value = parts.0; memory_after = parts.1.0; room_after = parts.1.1 }

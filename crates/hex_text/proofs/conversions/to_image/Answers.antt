@@ -13,7 +13,11 @@ slice_bounds-read-end c =
 pub returns-then-code-ne0 : goal.returns-then-code-ne0
 returns-then-code-ne0 c =
     let told = rw c.text_end-end.ensures at c.read-refusal.ensures in
-    record { value = refused _ _ told.value (λ none. c.if-code-ne0.true (c.code.ensures ∙ none)); part = is-part _ _ (omega arith); room_after = told.room_after }
+    record {
+      value = refused _ _ told.value (λ none. c.if-code-ne0.true (c.code.ensures ∙ none));
+      part = is-part _ _ (omega arith);
+      room_after = told.room_after;
+    }
 
 pub returns : goal.returns
 returns c =

@@ -8,7 +8,11 @@ use Rattle.hex_text.proofs.conversions.to_text.Goals as goal
 pub returns-then-code-ne0 : goal.returns-then-code-ne0
 returns-then-code-ne0 c =
     let told = c.write-refusal.ensures in
-    record { value = refused _ _ told.value (λ none. c.if-code-ne0.true (c.code.ensures ∙ none)); part = is-part _ _ (omega arith); room_after = told.room_after }
+    record {
+      value = refused _ _ told.value (λ none. c.if-code-ne0.true (c.code.ensures ∙ none));
+      part = is-part _ _ (omega arith);
+      room_after = told.room_after;
+    }
 
 pub returns : goal.returns
 returns c =
