@@ -126,7 +126,7 @@ fn stands(text: &[u8], at: usize, key: &[u8]) -> bool
     same(&text[at..end], key)
 }
 
-// Where the first such byte stands from a place on; the text's end where there is none.
+// Where the first such byte stands from a place on; the text's end where there is none. From a place past the end it is that place.
 pub fn find(text: &[u8], from: usize, byte: u8) -> usize
     ensures { result ≡ closed_at text.now from byte }
 {
