@@ -1,9 +1,8 @@
 -- Two memories word by word: one word and those behind it, by whether it is the same in both; and a memory beside itself.
-use Prim.Native.Nat.{ℕ, zero, suc, ◌+◌, ◌-◌, ◌*◌, ◌≤◌, ◌<◌}
-use mathlib.Core.Bool.{Bool, true, false}
+use Prim.Native.Nat.{ℕ, zero, suc, ◌+◌, ◌*◌, ◌≤◌}
+use mathlib.Core.Bool.{true, false}
 use mathlib.Core.List.{List}
-use mathlib.Core.Logic.{◌≢◌}
-use mathlib.Core.Path.{◌≡◌, refl, ap, ap₂, ◌∙◌}
+use mathlib.Core.Path.{◌≡◌, refl, ap, ap₂}
 use native.Mathlib.Omega.{arith}
 use borrow.Author.Tests.{eq-eqb}
 use Rattle.words.specs.rules.Bytes.{word_at}
@@ -11,43 +10,32 @@ use Rattle.words.specs.rules.Choice.{pick}
 use Rattle.words.proofs.Choice.{chosen, passed, of_choice}
 use Rattle.agreement.specs.rules.Differing.{same_word, differing, first_unlike}
 
--- what 1 and 0 say of a test
-pub fails_at_one : (t : Bool) {one : ℕ} → one ≡ pick t 0 1 → one ≡ 1 → t ≡ false
-unfolding pick
-fails_at_one true e is_one = absurd (omega (arith, e, is_one))
-fails_at_one false e is_one = refl
-
-pub holds_else : (t : Bool) {one : ℕ} → one ≡ pick t 0 1 → one ≢ 1 → t ≡ true
-unfolding pick
-holds_else true e other = refl
-holds_else false e other = absurd (other e)
-
 module _ (a b : List ℕ) where
-  -- a word is one that differs, or none
-  pub at_most_one : (place : ℕ) {one : ℕ} → one ≡ pick (same_word a b place) 0 1 → one ≤ 1
-  at_most_one place e =
-      let low : pick (same_word a b place) 0 1 ≤ 1 = of_choice (λ (n : ℕ). n ≤ 1) (same_word a b place) {a = 0} {b = 1} (λ t. omega arith) (λ t. omega arith) in
-      omega (arith, e, low)
-
   -- one word, and those behind it
-  pub word_counted : (n place : ℕ) → 0 < n → differing n place a b ≡ pick (same_word a b place) 0 1 + differing (n - 1) (place + 4) a b
-  unfolding differing
-  word_counted zero place some = absurd (omega (arith, some))
-  word_counted (suc n) place some =
-      let less : n ≡ suc n - 1 = omega arith in
-      ap (λ (k : ℕ). pick (same_word a b place) 0 1 + differing k (place + 4) a b) less
+  module _ (n later place next : ℕ) (some : n ≡ suc later) (behind : next ≡ place + 4) where
+    pub word_counted : differing n place a b ≡ pick (same_word a b place) 0 1 + differing later next a b
+    unfolding differing
+    word_counted = rw (some, behind) refl
 
-  pub word_passed : (n place : ℕ) → 0 < n → same_word a b place ≡ true → first_unlike n place a b ≡ first_unlike (n - 1) (place + 4) a b
-  unfolding first_unlike
-  word_passed zero place some same = absurd (omega (arith, some))
-  word_passed (suc n) place some same =
-      let less : n ≡ suc n - 1 = omega arith in
-      chosen _ _ _ same ∙ ap (λ (k : ℕ). first_unlike k (place + 4) a b) less
+    pub same_counted : same_word a b place ≡ true → differing n place a b ≡ differing later next a b
+    same_counted same =
+        let none : pick {A = ℕ} (same_word a b place) 0 1 ≡ 0 = chosen _ 0 1 same in
+        let all = word_counted in
+        omega arith
 
-  pub word_found : (n place : ℕ) → 0 < n → same_word a b place ≡ false → first_unlike n place a b ≡ place
-  unfolding first_unlike
-  word_found zero place some other = absurd (omega (arith, some))
-  word_found (suc n) place some other = passed _ _ _ other
+    pub other_counted : same_word a b place ≡ false → differing n place a b ≡ 1 + differing later next a b
+    other_counted other =
+        let one : pick {A = ℕ} (same_word a b place) 0 1 ≡ 1 = passed _ 0 1 other in
+        let all = word_counted in
+        omega arith
+
+    pub word_passed : same_word a b place ≡ true → first_unlike n place a b ≡ first_unlike later next a b
+    unfolding first_unlike
+    word_passed same = rw (some, behind) (chosen _ _ _ same)
+
+    pub word_found : same_word a b place ≡ false → first_unlike n place a b ≡ place
+    unfolding first_unlike
+    word_found other = rw some (passed _ _ _ other)
 
   -- the first stands among them or just behind them
   pub first_within : (n place : ℕ) → first_unlike n place a b ≤ place + 4 * n

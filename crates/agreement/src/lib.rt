@@ -2,7 +2,6 @@
 #![tactic(auto)]
 
 ghost use Rattle.std.specs.Prelude.{◌≡◌, length};
-ghost use Rattle.words.specs.rules.Choice.{pick};
 ghost use Rattle.event_room.specs.rules.Room.{place_after, room_after};
 ghost use Rattle.flash_runs.specs.rules.Events.{events_from};
 ghost use Rattle.flash_runs.specs.rules.Run.{ran_from};
@@ -13,14 +12,14 @@ ghost use Rattle.agreement.specs.rules.Differing.{same_word, differing, first_un
 use exchange::Exchanged;
 use flash_runs::Ran;
 use flash_session::Session;
-use opcodes::{Dialect, Event};
+use opcodes::{Dialect, Event, Refusal};
 use sent::Bus;
 
-// How a flash run ended: the code of its refusal or 0, the offset of its last command, its retries, the event of its last call, and how many bytes of the room
+// How a flash run ended: its refusal, the offset of its last command, its retries, the event of its last call, and how many bytes of the room
 // hold events.
 #[derive(Clone, Copy)]
 pub struct FlashEnd {
-    pub code: u8,
+    pub refusal: Option<Refusal>,
     pub at: u32,
     pub retries: u8,
     pub event: Event,
@@ -47,14 +46,11 @@ const WORDS: u32 = 1024;
 
 const MOST_TRIES: u32 = 1000;
 
-// Does the word at a place differ? 1 or 0.
-fn unlike(flash: &[u8], line: &[u8], place: usize) -> u32
-    ensures { result ≡ pick (same_word flash.now line.now place) 0 1 }
+// Is the word at a place the same in both memories?
+fn is_same(flash: &[u8], line: &[u8], place: usize) -> bool
+    ensures { result ≡ same_word flash.now line.now place }
 {
-    if words::word_at(flash, place) == words::word_at(line, place) {
-        return 0;
-    }
-    1
+    words::word_at(flash, place) == words::word_at(line, place)
 }
 
 // How many words of two memories differ.
@@ -62,30 +58,24 @@ fn count_differing(flash: &[u8], line: &[u8]) -> u32
     ensures { result ≡ differing 1024 0 flash.now line.now }
 {
     let mut count: u32 = 0;
-    let mut place: usize = 0;
-    let mut left = WORDS;
-    while 0 < left {
-        count += unlike(flash, line, place);
-        place += 4;
-        left -= 1;
+    for word in 0..WORDS {
+        if !is_same(flash, line, 4 * word as usize) {
+            count += 1;
+        }
     }
     count
 }
 
-// The place of the first word that differs.
+// The place of the first word that differs; the place behind them all where none does.
 fn first_unlike(flash: &[u8], line: &[u8]) -> u32
     ensures { result ≡ first_unlike 1024 0 flash.now line.now }
 {
-    let mut place: u32 = 0;
-    let mut left = WORDS;
-    while 0 < left {
-        if unlike(flash, line, place as usize) == 1 {
-            return place;
+    for word in 0..WORDS {
+        if !is_same(flash, line, 4 * word as usize) {
+            return 4 * word;
         }
-        place += 4;
-        left -= 1;
     }
-    place
+    4 * WORDS
 }
 
 // The first address of the window.
@@ -113,10 +103,9 @@ fn end_of(ran: Ran) -> FlashEnd
     ensures { result ≡ end_of ran.called ran.told }
 {
     let called = ran.called;
-    let refusal = called.refusal;
     let event = called.event;
     FlashEnd {
-        code: refusal.code(),
+        refusal: called.refusal,
         at: called.at,
         retries: called.session.retries,
         event,

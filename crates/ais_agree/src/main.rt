@@ -3,143 +3,129 @@
 #![tactic(auto)]
 
 use agreement::{Compared, Difference, FlashEnd};
-use digits::Number;
 use exchange::Exchanged;
 use opcodes::{Dialect, Event};
 use sent::Bus;
 use std::env::Env;
-use std::io;
 use std::io::Read;
+use std::{fmt, io};
 
 // The largest retry limit: with it the longest image has 52,417 events at most, which fill the room.
 const MOST_RETRIES: u32 = 15;
 
+// The kind of a wait among the events of a room.
+const WAIT: u32 = 1;
+
 // The address entered, a dash for none.
-fn put_entry(rt: &impl Print, event: Event) -> io::Result<()> {
-    match event {
-        Event::Enter(address) => ais_printing::put_word_line(rt, b" enter=", address),
-        _ => ais_printing::put(rt, b" enter=-\n"),
+#[derive(Drop)]
+struct Entered(Event);
+
+impl fmt::Display for Entered {
+    fn fmt<W: fmt::Write>(&self, f: &mut fmt::Formatter<W>) -> fmt::Result {
+        match self.0 {
+            Event::Enter(address) => write!(f, "{address:#010X}"),
+            _ => f.write_char('-'),
+        }
+    }
+}
+
+// The cycles of a wait, a dash where there is none.
+#[derive(Drop)]
+struct Cycles(Option<u32>);
+
+impl fmt::Display for Cycles {
+    fn fmt<W: fmt::Write>(&self, f: &mut fmt::Formatter<W>) -> fmt::Result {
+        match self.0 {
+            Some(cycles) => write!(f, "{cycles}"),
+            None => f.write_char('-'),
+        }
     }
 }
 
 fn put_flash(rt: &impl Print, end: FlashEnd) -> io::Result<()> {
-    let event = end.event;
-    ais_printing::put_number(rt, b"flash code=", end.code as u64)?;
-    ais_printing::put_number(rt, b" at=", end.at as u64)?;
-    ais_printing::put_number(rt, b" retries=", end.retries as u64)?;
-    put_entry(rt, event)
+    print!(rt;
+        "flash code={} at={} retries={} ",
+        opcodes::code_of(end.refusal),
+        end.at,
+        end.retries
+    )?;
+    println!(rt; "enter={}", Entered(end.event))
 }
 
 fn put_line(rt: &impl Print, end: Exchanged) -> io::Result<()> {
-    let event = end.event;
-    ais_printing::put_number(rt, b"line code=", end.refusal as u64)?;
-    ais_printing::put_number(rt, b" loader=", end.refused as u64)?;
-    ais_printing::put_number(rt, b" retries=", end.retries as u64)?;
-    put_entry(rt, event)
+    print!(rt;
+        "line code={} loader={} retries={} ",
+        opcodes::code_of(end.refusal),
+        opcodes::code_of(end.refused),
+        end.retries
+    )?;
+    println!(rt; "enter={}", Entered(end.event))
 }
 
-// Is the event at a place of a room a wait?
-fn is_wait(room: &[u8], told: usize, place: usize) -> bool {
-    if place < told {
-        return words::word_at(room, place) == 1;
+// The events that a side told: those bytes of its room, eight an event, a kind and a value.
+#[derive(Clone, Copy)]
+struct Events<'a>(&'a [[u8; 8]]);
+
+impl<'a> Events<'a> {
+    fn told(room: &'a [u8], bytes: usize) -> Events<'a> {
+        let (events, _) = room.get(..bytes).unwrap_or(room).as_chunks();
+        Events(events)
     }
-    false
-}
 
-// Its cycles, a dash where there is none.
-fn put_cycles(
-    rt: &impl Print,
-    key: &[u8],
-    room: &[u8],
-    told: usize,
-    place: usize,
-    value: usize,
-) -> io::Result<()> {
-    ais_printing::put(rt, key)?;
-    if !is_wait(room, told, place) {
-        return ais_printing::put(rt, b"-");
+    fn count(self) -> usize {
+        self.0.len()
     }
-    let cycles = words::word_at(room, value);
-    print!(rt; "{cycles}")
+
+    // The cycles of an event, if it is a wait.
+    fn wait(self, number: usize) -> Option<u32> {
+        let event = self.0.get(number)?;
+        (words::word_at(event, 0) == WAIT).then_some(words::word_at(event, 4))
+    }
 }
 
-// The line of the waits at a place, their cycles at the next, unless neither side has one.
-fn put_wait(
-    rt: &impl Print,
-    flash: &[u8],
-    flash_told: usize,
-    line: &[u8],
-    line_told: usize,
-    place: usize,
-    value: usize,
-) -> io::Result<()> {
-    if !is_wait(flash, flash_told, place) {
-        if !is_wait(line, line_told, place) {
-            return Ok(());
+// The waits of both sides, in order; no line where neither side has one.
+fn put_waits(rt: &impl Print, flash: Events<'_>, line: Events<'_>) -> io::Result<()> {
+    for number in 0..flash.count().max(line.count()) {
+        let one = flash.wait(number);
+        let other = line.wait(number);
+        if one.is_some() || other.is_some() {
+            println!(rt; "wait flash={} line={}", Cycles(one), Cycles(other))?;
         }
-    }
-    put_cycles(rt, b"wait flash=", flash, flash_told, place, value)?;
-    put_cycles(rt, b" line=", line, line_told, place, value)?;
-    ais_printing::put(rt, b"\n")
-}
-
-fn larger(one: usize, other: usize) -> usize {
-    if one < other {
-        return other;
-    }
-    one
-}
-
-// The waits of both sides, in order.
-fn put_waits(
-    rt: &impl Print,
-    flash: &[u8],
-    flash_told: usize,
-    line: &[u8],
-    line_told: usize,
-) -> io::Result<()> {
-    let most = larger(flash_told, line_told);
-    let mut place: usize = 0;
-    while place < most {
-        if most - place < 8 {
-            return Ok(());
-        }
-        put_wait(rt, flash, flash_told, line, line_told, place, place + 4)?;
-        place += 8;
     }
     Ok(())
 }
 
 fn put_difference(rt: &impl Print, difference: Difference) -> io::Result<()> {
-    ais_printing::put_number(rt, b"differ=", difference.words as u64)?;
-    if difference.words == 0 {
-        return ais_printing::put(rt, b"\n");
+    let count = difference.words;
+    if count == 0 {
+        println!(rt; "differ=0")
+    } else {
+        println!(rt; "differ={count} first={:#010X}", difference.first)
     }
-    ais_printing::put_word_line(rt, b" first=", difference.first)
 }
 
 fn put_compared(rt: &impl Print, compared: Compared, flash: &[u8], line: &[u8]) -> io::Result<()> {
-    let ran = compared.flash;
-    let talked = compared.line;
-    let difference = compared.difference;
-    put_flash(rt, ran)?;
-    put_line(rt, talked)?;
-    put_waits(rt, flash, ran.told, line, talked.told)?;
-    put_difference(rt, difference)
+    put_flash(rt, compared.flash)?;
+    put_line(rt, compared.line)?;
+    let flash_events = Events::told(flash, compared.flash.told);
+    put_waits(rt, flash_events, Events::told(line, compared.line.told))?;
+    put_difference(rt, compared.difference)
 }
 
 fn asked_dialect(rt: &impl Env) -> Dialect {
     if ais_arguments::is_word(rt, 1, b"dm648") {
-        return Dialect::Dm648;
+        Dialect::Dm648
+    } else {
+        Dialect::Am17xx
     }
-    Dialect::Am17xx
 }
 
 fn asked_bus(rt: &impl Env) -> Bus {
     if ais_arguments::is_word(rt, 2, b"halves") {
-        return Bus::Halves;
+        Bus::Halves
+    } else {
+        Bus::Bytes
     }
-    Bus::Bytes
 }
 
 // Compares, and tells.
@@ -158,7 +144,7 @@ fn tell(rt: &(impl Env + Print), image: &[u8], limit: u8) -> io::Result<()> {
 }
 
 fn say_unread(rt: &impl Eprint) -> io::Result<()> {
-    ais_printing::say(rt, "ais-agree: standard input can't be read\n")
+    eprintln!(rt; "ais-agree: standard input can't be read")
 }
 
 // One byte more than the longest image is room enough: what is longer is refused however long.
@@ -176,14 +162,14 @@ fn run(rt: &(impl Env + Input + Print + Eprint), limit: u8) -> io::Result<()> {
 }
 
 fn say_limit(rt: &impl Eprint) -> io::Result<()> {
-    ais_printing::say(rt, "ais-agree: the retry limit is a number from 0 to 15\n")
+    eprintln!(rt; "ais-agree: the retry limit is a number from 0 to 15")
 }
 
 fn main(rt: HostRuntime) -> io::Result<()> {
     if ais_arguments::count(&rt) < 4 {
         return run(&rt, 0);
     }
-    let Number::Is(limit) = ais_arguments::number_at(&rt, 3) else {
+    let Some(limit) = ais_arguments::number_at(&rt, 3) else {
         return say_limit(&rt);
     };
     if MOST_RETRIES < limit {

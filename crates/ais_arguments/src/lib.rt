@@ -3,7 +3,6 @@
 
 ghost use Rattle.std.specs.Prelude.{◌≤◌, length};
 
-use digits::Number;
 use std::env::{Env, FillError};
 
 // Is there such an argument? One that finds no room is there.
@@ -32,8 +31,8 @@ pub fn read(rt: &impl Env, i: usize, room: &mut [u8]) -> usize
     }
 }
 
-// The number that an argument is.
-pub fn number_at(rt: &impl Env, i: usize) -> Number {
+// The number that an argument is, if it is one.
+pub fn number_at(rt: &impl Env, i: usize) -> Option<u32> {
     let mut room = [0u8; 16];
     let n = read(rt, i, &mut room);
     digits::given(&room[..n])

@@ -1,107 +1,74 @@
 // What is told of a run and of a chosen word, a line each.
+use ais_printing::Letters;
 use bit_report::{Deed, Kind, Names, Part, Word};
-use field_register::FoundLine;
-use std::io;
+use field_lines::FieldLine;
+use opcodes::Refusal;
+use std::{fmt, io};
+
+// What is told of: an image, and what its run left: for each bit the number and the offset of the command that wrote it last; and the names of the bits,
+// which are told only where a register was given.
+#[derive(Clone, Copy)]
+pub struct Run<'a> {
+    pub image: &'a [u8],
+    pub numbers: &'a [u8],
+    pub offsets: &'a [u8],
+    pub names: Names,
+    pub named: bool,
+}
 
 // How the run ended.
-pub fn outcome(rt: &impl Print, entered: bool, code: u8, at: u32) -> io::Result<()> {
-    if entered {
-        ais_printing::put(rt, b"outcome=entered")?;
-    } else {
-        ais_printing::put(rt, b"outcome=refused")?;
-    }
-    ais_printing::put_number(rt, b" code=", code as u64)?;
-    ais_printing::put_number_line(rt, b" at=", at as u64)
-}
-
-// The first and the last of some bits.
-fn put_bits(rt: &impl Print, key: &[u8], start: u32, stop: u32) -> io::Result<()> {
-    ais_printing::put_number(rt, key, start as u64)?;
-    ais_printing::put_number(rt, b"..", stop as u64)
-}
-
-// The last bit before one.
-fn last_before(end: u32) -> u32 {
-    if end == 0 {
-        return 0;
-    }
-    end - 1
-}
-
-// What a command is.
-fn put_deed(rt: &impl Print, deed: Deed) -> io::Result<()> {
-    let kind = deed.kind;
-    match kind {
-        Kind::Load => ais_printing::put(rt, b" load"),
-        Kind::Fill => ais_printing::put(rt, b" fill"),
-        Kind::Setting => put_bits(rt, b" setting=", deed.from, last_before(deed.to)),
-        Kind::Other => ais_printing::put(rt, b" unknown"),
+pub fn outcome(rt: &impl Print, refusal: Option<Refusal>, at: u32) -> io::Result<()> {
+    match refusal {
+        None => println!(rt; "outcome=entered code=0 at={at}"),
+        Some(refusal) => println!(rt; "outcome=refused code={} at={at}", refusal.code()),
     }
 }
 
-// A command by its number, its offset and what it is.
-fn put_command(rt: &impl Print, number: u32, at: u32, deed: Deed) -> io::Result<()> {
-    ais_printing::put_number(rt, b" command=", number as u64)?;
-    ais_printing::put_number(rt, b" at=", at as u64)?;
-    put_deed(rt, deed)
+// What a command is, and of a setting the bits from the first to the last.
+#[derive(Clone, Copy)]
+struct Doing(Deed);
+
+impl fmt::Display for Doing {
+    fn fmt<W: fmt::Write>(&self, f: &mut fmt::Formatter<W>) -> fmt::Result {
+        let deed = self.0;
+        match deed.kind {
+            Kind::Load => f.write_str("load"),
+            Kind::Fill => f.write_str("fill"),
+            Kind::Setting => write!(f, "setting={}..{}", deed.from, deed.to.saturating_sub(1)),
+            Kind::Other => f.write_str("unknown"),
+        }
+    }
 }
 
 // The field of some bits, a dash for none.
-fn put_field(rt: &impl Print, field: FoundLine) -> io::Result<()> {
-    if !field.found {
-        return ais_printing::put(rt, b" field=-");
+fn put_field(rt: &impl Print, field: Option<FieldLine>) -> io::Result<()> {
+    match field {
+        Some(line) => print!(rt; " field={}", Letters(line.name)),
+        None => print!(rt; " field=-"),
     }
-    let line = field.line;
-    let name = line.name;
-    ais_printing::put_name(rt, b" field=", name)
 }
 
 // A line of bits of which the same is told; the field only where a register was given.
-fn put_part(
-    rt: &impl Print,
-    image: &[u8],
-    named: bool,
-    address: u32,
-    part: Part,
-) -> io::Result<()> {
+fn put_part(rt: &impl Print, run: &Run, address: u32, part: Part) -> io::Result<()> {
     let told = part.told;
-    let field = told.field;
-    put_bits(rt, b"bits=", part.start, part.stop)?;
-    ais_printing::put_number(rt, b" value=", part.value as u64)?;
-    if named {
-        put_field(rt, field)?;
+    print!(rt; "bits={}..{} value={}", part.start, part.stop, part.value)?;
+    if run.named {
+        put_field(rt, told.field)?;
     }
     if told.number == 0 {
-        return ais_printing::put(rt, b" never written\n");
+        return println!(rt; " never written");
     }
-    put_command(
-        rt,
-        told.number,
-        told.at,
-        bit_report::deed_at(image, told.at, address),
-    )?;
-    ais_printing::put(rt, b"\n")
+    let deed = Doing(bit_report::deed_at(run.image, told.at, address));
+    println!(rt; " command={} at={} {deed}", told.number, told.at)
 }
 
 // The lines of a word.
-fn put_parts(
-    rt: &impl Print,
-    image: &[u8],
-    value: u32,
-    numbers: &[u8],
-    offsets: &[u8],
-    names: Names,
-    named: bool,
-    word: Word,
-) -> io::Result<()> {
+fn put_parts(rt: &impl Print, run: &Run, value: u32, word: Word) -> io::Result<()> {
     let mut bit: u32 = 0;
     while bit < 32 {
-        let part = bit_report::part_from(value, numbers, offsets, names, word, bit);
-        put_part(rt, image, named, word.address, part)?;
-        if part.stop < bit {
-            return Ok(());
-        }
-        if 31 <= part.stop {
+        let part = bit_report::part_from(value, run.numbers, run.offsets, run.names, word, bit);
+        put_part(rt, run, word.address, part)?;
+        if part.stop < bit || 31 <= part.stop {
             return Ok(());
         }
         bit = part.stop + 1;
@@ -110,16 +77,18 @@ fn put_parts(
 }
 
 // A field, and whether a command writes all of it.
-fn put_written(rt: &impl Print, field: FoundLine, deed: Deed) -> io::Result<()> {
-    let line = field.line;
-    let name = line.name;
-    if bit_report::reaches_out(line, deed.from, deed.to) {
-        ais_printing::put(rt, b"part of ")?;
+fn put_written(rt: &impl Print, line: FieldLine, deed: Deed) -> io::Result<()> {
+    let share = if bit_report::reaches_out(line, deed.from, deed.to) {
+        "part"
     } else {
-        ais_printing::put(rt, b"all of ")?;
-    }
-    ais_printing::put_name(rt, b"", name)?;
-    put_bits(rt, b" ", line.start, line.stop)
+        "all"
+    };
+    print!(rt;
+        "{share} of {} {}..{}",
+        Letters(line.name),
+        line.start,
+        line.stop
+    )
 }
 
 // The fields that a command writes.
@@ -127,13 +96,15 @@ fn put_fields(rt: &impl Print, names: Names, address: u32, deed: Deed) -> io::Re
     let mut bit = bit_report::first_field(names, address, deed.from, deed.to);
     while bit < deed.to {
         let field = bit_report::field_at(names, address, bit);
-        put_written(rt, field, deed)?;
+        if let Some(line) = field {
+            put_written(rt, line, deed)?;
+        }
         let next = bit_report::other_field(names, address, field, bit + 1, deed.to);
         if next <= bit {
             return Ok(());
         }
         if next < deed.to {
-            ais_printing::put(rt, b", ")?;
+            print!(rt; ", ")?;
         }
         bit = next;
     }
@@ -141,86 +112,46 @@ fn put_fields(rt: &impl Print, names: Names, address: u32, deed: Deed) -> io::Re
 }
 
 // Points out a command that writes two fields, or a field only in part.
-fn put_warning(
-    rt: &impl Print,
-    image: &[u8],
-    number: u32,
-    at: u32,
-    names: Names,
-    address: u32,
-) -> io::Result<()> {
-    let deed = bit_report::deed_at(image, at, address);
-    let two = bit_report::two_fields(names, address, deed);
-    let cut = bit_report::cut_field(names, address, deed);
+fn put_warning(rt: &impl Print, run: &Run, number: u32, at: u32, address: u32) -> io::Result<()> {
+    let deed = bit_report::deed_at(run.image, at, address);
+    let two = bit_report::two_fields(run.names, address, deed);
+    let cut = bit_report::cut_field(run.names, address, deed);
     if !two && !cut {
         return Ok(());
     }
-    ais_printing::put(rt, b"warning:")?;
-    put_command(rt, number, at, deed)?;
-    ais_printing::put(rt, b" writes ")?;
-    put_fields(rt, names, address, deed)?;
-    ais_printing::put(rt, b"\n")
+    print!(rt; "warning: command={number} at={at} {} writes ", Doing(deed))?;
+    put_fields(rt, run.names, address, deed)?;
+    println!(rt; "")
 }
 
 // Looks at the command of a bit, where the bit is the lowest that it wrote last.
-fn look_at(
-    rt: &impl Print,
-    image: &[u8],
-    numbers: &[u8],
-    offsets: &[u8],
-    names: Names,
-    word: Word,
-    bit: u32,
-) -> io::Result<()> {
-    let number = bit_report::entry(numbers, word.index, bit);
-    if number == 0 {
+fn look_at(rt: &impl Print, run: &Run, word: Word, bit: u32) -> io::Result<()> {
+    let number = bit_report::entry(run.numbers, word.index, bit);
+    if number == 0 || !bit_report::is_first(run.numbers, run.offsets, word.index, bit) {
         return Ok(());
     }
-    if !bit_report::is_first(numbers, offsets, word.index, bit) {
-        return Ok(());
-    }
-    let at = bit_report::entry(offsets, word.index, bit);
-    put_warning(rt, image, number, at, names, word.address)
+    let at = bit_report::entry(run.offsets, word.index, bit);
+    put_warning(rt, run, number, at, word.address)
 }
 
 // The commands of a word that are to be pointed out.
-fn put_warnings(
-    rt: &impl Print,
-    image: &[u8],
-    numbers: &[u8],
-    offsets: &[u8],
-    names: Names,
-    word: Word,
-) -> io::Result<()> {
-    let mut bit: u32 = 0;
-    while bit < 32 {
-        look_at(rt, image, numbers, offsets, names, word, bit)?;
-        bit += 1;
+fn put_warnings(rt: &impl Print, run: &Run, word: Word) -> io::Result<()> {
+    for bit in 0..32 {
+        look_at(rt, run, word, bit)?;
     }
     Ok(())
 }
 
 // All that is told of a word.
-pub fn word(
-    rt: &impl Print,
-    image: &[u8],
-    value: u32,
-    numbers: &[u8],
-    offsets: &[u8],
-    names: Names,
-    named: bool,
-    word: Word,
-) -> io::Result<()> {
-    ais_printing::put_word(rt, b"word=", word.address)?;
-    ais_printing::put_word_line(rt, b" value=", value)?;
-    put_parts(rt, image, value, numbers, offsets, names, named, word)?;
-    put_warnings(rt, image, numbers, offsets, names, word)
+pub fn word(rt: &impl Print, run: &Run, value: u32, word: Word) -> io::Result<()> {
+    println!(rt; "word={:#010X} value={value:#010X}", word.address)?;
+    put_parts(rt, run, value, word)?;
+    put_warnings(rt, run, word)
 }
 
 // Words that are refused.
 pub fn refused_words(rt: &impl Print) -> io::Result<()> {
-    ais_printing::put(
-        rt,
-        b"refusal=24 more than 64 words, or one that is no multiple of 4, is named twice, or does not lie in the window\n",
+    println!(rt;
+        "refusal=24 more than 64 words, or one that is no multiple of 4, is named twice, or does not lie in the window"
     )
 }

@@ -7,18 +7,16 @@ mod answers;
 ghost use Rattle.std.specs.Prelude.{◌*◌, ◌≤◌, length};
 
 use ais_arguments::number_at;
+use answers::Run;
 use bit_report::{Names, Word};
-use digits::Number;
+use field_register::Register;
 use std::env::Env;
 use std::fs::Files;
 use std::{fs, io, str};
 use words::Unit;
 
 fn usage(rt: &impl Print) -> io::Result<()> {
-    ais_printing::put(
-        rt,
-        b"usage: ais-bits [--register FILE RELEASE] FILE WORD..\n",
-    )
+    println!(rt; "usage: ais-bits [--register FILE RELEASE] FILE WORD..")
 }
 
 // One word more than may be chosen: with it they are refused, however many follow.
@@ -28,14 +26,9 @@ const MOST_READ: usize = 65;
 fn words_given(rt: &impl Env, first: usize) -> usize
     ensures { result ≤ 65 }
 {
-    let count = ais_arguments::count(rt);
-    if count <= first {
-        return 0;
-    }
-    if MOST_READ < count - first {
-        return MOST_READ;
-    }
-    count - first
+    ais_arguments::count(rt)
+        .saturating_sub(first)
+        .min(MOST_READ)
 }
 
 // Puts the words from an argument on into a list, four bytes each, and answers how many; 0 where one is no number.
@@ -44,43 +37,26 @@ fn read_words(rt: &impl Env, first: usize, list: &mut [u8]) -> usize
     ensures { (result ≤ 65) × (4 * result ≤ length list.new) }
 {
     let count = words_given(rt, first);
-    let mut i: usize = 0;
-    while i < count {
-        let Number::Is(word) = number_at(rt, first + i) else {
+    for i in 0..count {
+        let Some(word) = number_at(rt, first + i) else {
             return 0;
         };
         words::write(list, 4 * i, Unit::Four, word);
-        i += 1;
     }
     count
 }
 
-// Tells of the words, by what the run left.
-fn tell(
-    rt: &impl Print,
-    image: &[u8],
-    list: &[u8],
-    count: usize,
-    places: [usize; 64],
-    memory: &[u8],
-    numbers: &[u8],
-    offsets: &[u8],
-    names: Names,
-    named: bool,
-) -> io::Result<()> {
-    let mut i: usize = 0;
-    while i < 64 {
-        if count <= i {
-            return Ok(());
-        }
-        let place = places[i];
-        let value = words::word_at(memory, place);
+// Tells of the words of a list, which stand in the memory at these places.
+fn tell(rt: &impl Print, run: &Run, list: &[u8], places: &[usize], memory: &[u8]) -> io::Result<()>
+    requires { length places.now ≤ 64 }
+{
+    for (i, place) in places.iter().enumerate() {
+        let value = words::word_at(memory, *place);
         let word = Word {
             index: i as u32,
             address: words::word_at(list, 4 * i),
         };
-        answers::word(rt, image, value, numbers, offsets, names, named, word)?;
-        i += 1;
+        answers::word(rt, run, value, word)?;
     }
     Ok(())
 }
@@ -93,24 +69,20 @@ fn run(rt: &(impl Input + Print), list: &[u8], names: Names, named: bool) -> io:
     let mut offsets = [0u8; 4096];
     let n = ais_reading::read_input(rt, &mut room)?;
     let image = &room[..n];
-    let traced = bit_runs::run(list, image, &mut memory, &mut numbers, &mut offsets);
-    if !traced.chosen {
+    let Ok(traced) = bit_runs::run(list, image, &mut memory, &mut numbers, &mut offsets) else {
         return answers::refused_words(rt);
-    }
-    answers::outcome(rt, traced.entered, traced.code, traced.at)?;
-    let places = traced.places;
-    tell(
-        rt,
+    };
+    answers::outcome(rt, traced.refusal, traced.at)?;
+    let run = Run {
         image,
-        list,
-        traced.count,
-        places,
-        &memory,
-        &numbers,
-        &offsets,
+        numbers: &numbers,
+        offsets: &offsets,
         names,
         named,
-    )
+    };
+    let places = traced.chosen.places;
+    let count = traced.chosen.count.min(places.len());
+    tell(rt, &run, list, &places[..count], &memory)
 }
 
 // Reads the words from an argument on, and goes on with them.
@@ -144,21 +116,15 @@ fn with_register(rt: &(impl Env + Files + Input + Print), release: u32) -> io::R
     };
     let n = ais_reading::read_full(&mut file, &mut room)?;
     let text = &room[..n];
-    let reading = field_register::read(text);
-    let refusal = reading.refusal;
-    let code = refusal.code();
-    if code != 0 {
-        return ais_printing::registers::put_refused(rt, text, code, reading.line);
+    match field_register::read(text) {
+        Ok(register) => with_words(rt, 4, Names { register, release }, true),
+        Err(refused) => ais_printing::registers::put_refused(rt, text, refused),
     }
-    let register = reading.register;
-    with_words(rt, 4, Names { register, release }, true)
 }
 
 // The bits have no names: the register of no line has none.
 fn with_no_register(rt: &(impl Env + Input + Print)) -> io::Result<()> {
-    let none = [0u8; 1];
-    let reading = field_register::read(&none[..0]);
-    let register = reading.register;
+    let register = Register::empty();
     with_words(
         rt,
         1,
@@ -174,7 +140,7 @@ fn main(rt: HostRuntime) -> io::Result<()> {
     if !ais_arguments::is_word(&rt, 1, b"register") {
         return with_no_register(&rt);
     }
-    let Number::Is(release) = number_at(&rt, 3) else {
+    let Some(release) = number_at(&rt, 3) else {
         return usage(&rt);
     };
     with_register(&rt, release)

@@ -1,11 +1,13 @@
 // The program's answers, each a line of key=value words.
 use crate::text;
-use field_register::{FoundLine, Register, Subject};
+use ais_printing::Letters;
+use field_lines::FieldLine;
+use field_register::{FieldRefusal, Register, Subject};
 use std::io;
 
 // A good register.
 pub fn good(rt: &impl Print, register: Register) -> io::Result<()> {
-    ais_printing::put_number_line(rt, b"register=good lines=", register.count as u64)
+    println!(rt; "register=good lines={}", register.count)
 }
 
 // The field that a bit is in a release, and since when.
@@ -16,67 +18,49 @@ pub fn bit(
     bit: u32,
     release: u32,
 ) -> io::Result<()> {
-    let found = field_register::field_of(register, word, bit, release);
-    if !found.found {
-        return text::put_refusal(rt, 28);
-    }
-    let line = found.line;
-    let name = line.name;
-    ais_printing::put_name(rt, b"field=", name)?;
-    ais_printing::put_number_line(rt, b" since=", line.since as u64)
-}
-
-// The releases of a stretch; until=0 has no end.
-fn put_releases(rt: &impl Print, from: u32, last: u32) -> io::Result<()> {
-    ais_printing::put_number(rt, b" since=", from as u64)?;
-    ais_printing::put_number_line(rt, b" until=", last as u64)
+    let Some(line) = field_register::field_of(register, word, bit, release) else {
+        return text::put_refusal(rt, FieldRefusal::NoField);
+    };
+    println!(rt; "field={} since={}", Letters(line.name), line.since)
 }
 
 // What a bit is in a stretch of releases.
-fn put_field(rt: &impl Print, found: FoundLine) -> io::Result<()> {
-    if !found.found {
-        return ais_printing::put(rt, b"field=-");
+fn put_field(rt: &impl Print, found: Option<FieldLine>) -> io::Result<()> {
+    match found {
+        Some(line) => print!(rt; "field={}", Letters(line.name)),
+        None => print!(rt; "field=-"),
     }
-    let line = found.line;
-    let name = line.name;
-    ais_printing::put_name(rt, b"field=", name)
 }
 
 // Where a field is in a stretch of releases.
-fn put_place(rt: &impl Print, name: [u8; 16], found: FoundLine) -> io::Result<()> {
-    ais_printing::put_name(rt, b"field=", name)?;
-    if !found.found {
-        return ais_printing::put(rt, b" word=- start=- stop=-");
+fn put_place(rt: &impl Print, name: [u8; 16], found: Option<FieldLine>) -> io::Result<()> {
+    print!(rt; "field={}", Letters(name))?;
+    match found {
+        Some(line) => print!(rt;
+            " word={:#010X} start={} stop={}",
+            line.word, line.start, line.stop
+        ),
+        None => print!(rt; " word=- start=- stop=-"),
     }
-    let line = found.line;
-    ais_printing::put_word(rt, b" word=", line.word)?;
-    ais_printing::put_number(rt, b" start=", line.start as u64)?;
-    ais_printing::put_number(rt, b" stop=", line.stop as u64)
 }
 
-// One stretch, and the release behind it; 0 where it has no end.
+// One stretch, and the release behind it, unless it has no end.
 fn put_stretch(
     rt: &impl Print,
     register: Register,
     subject: Subject,
     from: u32,
-) -> io::Result<u32> {
+) -> io::Result<Option<u32>> {
     let stretch = field_register::stretch_from(register, subject, from);
-    let found = stretch.found;
-    if subject.named {
-        let name = subject.name;
-        put_place(rt, name, found)?;
-    } else {
-        put_field(rt, found)?;
+    match subject {
+        Subject::Name(name) => put_place(rt, name, stretch.found)?,
+        Subject::Bit { .. } => put_field(rt, stretch.found)?,
     }
-    put_releases(rt, from, stretch.last)?;
-    if stretch.last == 0 {
-        return Ok(0);
+    println!(rt; " since={from} until={}", stretch.last)?;
+    match stretch.last {
+        0 => Ok(None),
+        last => Ok(last.checked_add(1)),
     }
-    if stretch.last == 0xFFFF_FFFF {
-        return Ok(0);
-    }
-    Ok(stretch.last + 1)
 }
 
 // Each line begins and ends one stretch at most, so there are no more than this.
@@ -85,33 +69,38 @@ const MOST_STRETCHES: usize = 401;
 // A subject through all releases.
 pub fn history(rt: &impl Print, register: Register, subject: Subject) -> io::Result<()> {
     let mut from: u32 = 1;
-    let mut i: usize = 0;
-    while i < MOST_STRETCHES {
-        from = put_stretch(rt, register, subject, from)?;
-        if from == 0 {
+    for _ in 0..MOST_STRETCHES {
+        let Some(next) = put_stretch(rt, register, subject, from)? else {
             return Ok(());
-        }
-        i += 1;
+        };
+        from = next;
     }
     Ok(())
 }
 
 // Where a field was, release by release.
 pub fn field(rt: &impl Print, register: Register, name: &[u8]) -> io::Result<()> {
-    let given = field_lines::name_of(name);
-    if !given.good {
-        return text::put_refusal(rt, 28);
-    }
-    let letters = given.name;
-    let subject = field_register::the_name(letters);
+    let Some(letters) = field_lines::name_of(name) else {
+        return text::put_refusal(rt, FieldRefusal::NoField);
+    };
+    let subject = Subject::Name(letters);
     let first = field_register::stretch_from(register, subject, 1);
-    if !first.found.found && first.last == 0 {
-        return text::put_refusal(rt, 28);
+    if first.found.is_none() && first.last == 0 {
+        return text::put_refusal(rt, FieldRefusal::NoField);
     }
     history(rt, register, subject)
 }
 
-// The five words of the command that sets a field.
+// The five words of a command.
+fn put_command(rt: &impl Print, words: [u32; 5]) -> io::Result<()> {
+    print!(rt; "opcode={:#010X} type={:#010X} ", words[0], words[1])?;
+    println!(rt;
+        "address={:#010X} data={:#010X} delay={:#010X}",
+        words[2], words[3], words[4]
+    )
+}
+
+// The command that sets a field.
 pub fn setting(
     rt: &impl Print,
     register: Register,
@@ -119,16 +108,8 @@ pub fn setting(
     release: u32,
     value: u32,
 ) -> io::Result<()> {
-    let made = field_register::command(register, name, release, value);
-    let refusal = made.refusal;
-    let code = refusal.code();
-    if code != 0 {
-        return text::put_refusal(rt, code);
+    match field_register::command(register, name, release, value) {
+        Ok(words) => put_command(rt, words),
+        Err(refusal) => text::put_refusal(rt, refusal),
     }
-    let words = made.words;
-    ais_printing::put_word(rt, b"opcode=", words[0])?;
-    ais_printing::put_word(rt, b" type=", words[1])?;
-    ais_printing::put_word(rt, b" address=", words[2])?;
-    ais_printing::put_word(rt, b" data=", words[3])?;
-    ais_printing::put_word_line(rt, b" delay=", words[4])
 }

@@ -5,34 +5,24 @@ mod answers;
 mod text;
 
 use ais_arguments::{is_word, number_at};
-use digits::Number;
-use field_register::Register;
+use field_register::{Register, Subject};
 use std::env::Env;
 use std::io;
 
 // bit WORD BIT RELEASE
 fn ask_bit(rt: &(impl Env + Print), register: Register) -> io::Result<()> {
-    let Number::Is(word) = number_at(rt, 2) else {
-        return text::usage(rt);
-    };
-    let Number::Is(bit) = number_at(rt, 3) else {
-        return text::usage(rt);
-    };
-    let Number::Is(release) = number_at(rt, 4) else {
-        return text::usage(rt);
-    };
-    answers::bit(rt, register, word, bit, release)
+    match (number_at(rt, 2), number_at(rt, 3), number_at(rt, 4)) {
+        (Some(word), Some(bit), Some(release)) => answers::bit(rt, register, word, bit, release),
+        _ => text::usage(rt),
+    }
 }
 
 // bit WORD BIT
 fn ask_history(rt: &(impl Env + Print), register: Register) -> io::Result<()> {
-    let Number::Is(word) = number_at(rt, 2) else {
-        return text::usage(rt);
-    };
-    let Number::Is(bit) = number_at(rt, 3) else {
-        return text::usage(rt);
-    };
-    answers::history(rt, register, field_register::the_bit(word, bit))
+    match (number_at(rt, 2), number_at(rt, 3)) {
+        (Some(word), Some(bit)) => answers::history(rt, register, Subject::Bit { word, bit }),
+        _ => text::usage(rt),
+    }
 }
 
 // field NAME
@@ -46,13 +36,12 @@ fn ask_field(rt: &(impl Env + Print), register: Register) -> io::Result<()> {
 fn ask_setting(rt: &(impl Env + Print), register: Register) -> io::Result<()> {
     let mut room = [0u8; 32];
     let n = ais_arguments::read(rt, 2, &mut room);
-    let Number::Is(release) = number_at(rt, 3) else {
-        return text::usage(rt);
-    };
-    let Number::Is(value) = number_at(rt, 4) else {
-        return text::usage(rt);
-    };
-    answers::setting(rt, register, &room[..n], release, value)
+    match (number_at(rt, 3), number_at(rt, 4)) {
+        (Some(release), Some(value)) => {
+            answers::setting(rt, register, &room[..n], release, value)
+        }
+        _ => text::usage(rt),
+    }
 }
 
 // Which question the arguments ask.
@@ -81,12 +70,8 @@ fn main(rt: HostRuntime) -> io::Result<()> {
     let mut room = [0u8; 65536];
     let n = ais_reading::read_input(&rt, &mut room)?;
     let text = &room[..n];
-    let reading = field_register::read(text);
-    let refusal = reading.refusal;
-    let code = refusal.code();
-    if code != 0 {
-        return ais_printing::registers::put_refused(&rt, text, code, reading.line);
+    match field_register::read(text) {
+        Ok(register) => ask(&rt, register),
+        Err(refused) => ais_printing::registers::put_refused(&rt, text, refused),
     }
-    let register = reading.register;
-    ask(&rt, register)
 }

@@ -1,35 +1,6 @@
-// What is shown of an end: the outcome and the memory.
-ghost use Rattle.std.specs.Prelude.{◌≤◌};
-
+// What is shown of the memory that a run or a session leaves.
 use crate::text;
 use std::io;
-
-pub fn show_outcome(rt: &impl Print, kind: u8) -> io::Result<()> {
-    if kind == 3 {
-        ais_printing::put(rt, b"outcome=entered\n")?;
-    } else {
-        ais_printing::put(rt, b"outcome=refused\n")?;
-    }
-    Ok(())
-}
-
-// 0 for equal bytes, else 1.
-fn differs(a: u8, b: u8) -> u64
-    ensures { result ≤ 1 }
-{
-    if a == b { 0 } else { 1 }
-}
-
-// How many bytes are not the background.
-fn changed(memory: &[u8], background: u8) -> u64 {
-    let mut n: u64 = 0;
-    let mut i: usize = 0;
-    while i < memory.len() {
-        n += differs(memory[i], background);
-        i += 1;
-    }
-    n
-}
 
 // The rows that are shown, and how many bytes changed past them.
 pub fn show_memory(
@@ -39,10 +10,10 @@ pub fn show_memory(
     shown: usize,
     memory: &[u8],
 ) -> io::Result<()> {
-    if shown <= memory.len() {
-        text::rows(rt, first, &memory[0..shown])?;
-        ais_printing::put_number_line(rt, b"other=", changed(&memory[shown..], background))?;
-        ais_printing::put(rt, b"\n")?;
-    }
-    Ok(())
+    let Some((front, others)) = memory.split_at_checked(shown) else {
+        return Ok(());
+    };
+    text::rows(rt, first, front)?;
+    let changed = others.iter().filter(|byte| **byte != background).count();
+    println!(rt; "other={changed}\n")
 }

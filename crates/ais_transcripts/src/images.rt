@@ -112,21 +112,21 @@ pub fn put_word(image: &mut [u8], at: usize, value: u32) {
 
 // Writes words one after the other, as many as there is room for.
 pub fn put_words(image: &mut [u8], listed: &[u32]) {
-    let mut i: usize = 0;
-    while i < listed.len() && i < image.len() / 4 {
-        put_word(image, 4 * i, listed[i]);
-        i += 1;
+    for (place, word) in image.chunks_exact_mut(4).zip(listed) {
+        place.copy_from_slice(&word.to_le_bytes());
     }
 }
 
-// Writes words from an offset on.
+// Writes words from an offset on; past the end nothing.
 pub fn put_words_at(image: &mut [u8], at: usize, listed: &[u32]) {
-    if at <= image.len() {
-        put_words(&mut image[at..], listed);
+    if let Some(rest) = image.get_mut(at..) {
+        put_words(rest, listed);
     }
 }
 
-// Writes the table's image.
-pub fn put_table(image: &mut [u8]) {
-    put_words(image, &TABLE);
+// An image of so many bytes that begins with these words, and has zeros behind them.
+pub fn of_words<const N: usize>(listed: &[u32]) -> [u8; N] {
+    let mut image = [0u8; N];
+    put_words(&mut image, listed);
+    image
 }

@@ -9,8 +9,8 @@ use borrow.Author.Tests.{eq-eqb, ne_eqb, lt-ltb, le-ltb}
 use Rattle.words.proofs.Choice.{chosen, passed}
 use Rattle.windows.specs.rules.Window.{sum_of}
 use Rattle.opcodes.specs.rules.Answers.{code_of}
-use Rattle.opcodes.specs.declared.Refusal.{Refusal}
-use Rattle.opcodes.specs.declared.Refusal.TheVariants as refusal
+use Rattle.opcodes.specs.rules.Refusals.{Verdict}
+use Rattle.opcodes.specs.rules.Refusals as refusal
 use Rattle.flash_session.specs.rules.Opening.{opened_by, numbering_from}
 use Rattle.flash_session.specs.declared.Opened.{Opened}
 use Rattle.flash_runs.specs.rules.Entries.{entries_from}
@@ -29,7 +29,7 @@ noted e f = rw e f
 
 -- from an opening and a choice
 module _ (o : Opened) (choice : Choice) (m numbers image : List ℕ) where
-  abbrev why : Refusal
+  abbrev why : Verdict
   why = barred o.refusal choice (length numbers) (length m) (sum_of o.session.windows)
 
   pub from_barred : code_of why ≢ 0 → bits_from o choice m numbers image ≡ unrun why m numbers

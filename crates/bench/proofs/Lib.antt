@@ -1,3 +1,2 @@
 pub mod BitRuns
-pub mod RegisterCalls
 pub mod RunOffsets

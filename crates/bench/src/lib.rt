@@ -6,14 +6,13 @@ pub mod hosts;
 pub mod registers;
 
 ghost use Rattle.std.specs.Prelude.{◌≡◌, ◌+◌, ◌*◌, ◌/◌, ◌^◌, ◌≤◌};
-ghost use Rattle.words.specs.rules.Choice.{pick};
 ghost use Rattle.opcodes.specs.rules.Answers.{code_of};
 ghost use Rattle.hex_text.specs.rules.Text.{read_answer, read_room, write_answer, write_room};
 ghost use Rattle.bench_sessions.specs.rules.Feeding.{outcome, sent_session, line_session};
 ghost use Rattle.bench_sessions.specs.rules.Numbers.{watched, bits_session};
 ghost use Rattle.bench.specs.rules.Bits.{bits_from, bits_run};
 ghost use Rattle.bench.specs.rules.Fetched.{fetched_report, fetched_value};
-ghost use Rattle.bench.specs.rules.Runs.{reported, flash_value, flash_memory};
+ghost use Rattle.bench.specs.rules.Runs.{reported, flash_run, flash_value, flash_memory};
 
 use bit_choice::Choice;
 use flash_session::{Called, Opened, Session};
@@ -34,9 +33,8 @@ fn report(called: Called) -> u64
     requires { called.at ≤ 65536 }
     ensures { result ≡ reported called }
 {
-    let refusal = called.refusal;
     pack(
-        refusal.code(),
+        opcodes::code_of(called.refusal),
         called.session.retries,
         called.at,
         called.session.checksum,
@@ -47,36 +45,23 @@ fn report(called: Called) -> u64
 fn report_fetched(called: Called) -> u64
     ensures { result ≡ fetched_report called }
 {
-    let refusal = called.refusal;
-    ((refusal.code() as u64) << 32) + (called.session.fetched as u64)
+    ((opcodes::code_of(called.refusal) as u64) << 32) + (called.session.fetched as u64)
 }
 
-// Opens an image in a dialect on a map and runs it, unchanged, to the end of its session; answered by its report, or by the words fetched.
-fn run_image(
-    dialect: Dialect,
-    map: &[u8],
-    memory: &mut [u8],
-    image: &[u8],
-    limit: u8,
-    fetched: bool,
-) -> u64
-    ensures value { result ≡ pick fetched (fetched_value dialect map.now memory.old image.now limit)
-        (flash_value dialect map.now memory.old image.now limit) }
+// Opens an image in a dialect on a map and runs it, unchanged, to the end of its session.
+fn run_image(dialect: Dialect, map: &[u8], memory: &mut [u8], image: &[u8], limit: u8) -> Called
+    ensures value { result ≡ (flash_run dialect map.now memory.old image.now limit).answer }
+    ensures at_bound { result.at ≤ 65536 }
     ensures memory_after { memory.new ≡ flash_memory dialect map.now memory.old image.now limit }
 {
-    let lent = &image[0..];
     let opened = Session::open(
         dialect,
         bench_sessions::maps::count_of(map),
-        bench_sessions::maps::windows_of(&map[0..]),
-        lent,
+        bench_sessions::maps::windows_of(map),
+        image,
         limit,
     );
-    let called = flash_runs::run_plain(opened, memory, lent);
-    if fetched {
-        return report_fetched(called);
-    }
-    report(called)
+    flash_runs::run_plain(opened, memory, image)
 }
 
 // One whole flash run of an unchanged image.
@@ -84,7 +69,7 @@ pub fn ais_flash_run(map: &[u8], memory: &mut [u8], image: &[u8], limit: u8) -> 
     ensures value { result ≡ flash_value Dialect.Am17xx map.now memory.old image.now limit }
     ensures memory_after { memory.new ≡ flash_memory Dialect.Am17xx map.now memory.old image.now limit }
 {
-    run_image(Dialect::Am17xx, map, memory, image, limit, false)
+    report(run_image(Dialect::Am17xx, map, memory, image, limit))
 }
 
 // The same run, asked for the words that it fetched.
@@ -92,7 +77,7 @@ pub fn ais_flash_fetched(map: &[u8], memory: &mut [u8], image: &[u8], limit: u8)
     ensures value { result ≡ fetched_value Dialect.Am17xx map.now memory.old image.now limit }
     ensures memory_after { memory.new ≡ flash_memory Dialect.Am17xx map.now memory.old image.now limit }
 {
-    run_image(Dialect::Am17xx, map, memory, image, limit, true)
+    report_fetched(run_image(Dialect::Am17xx, map, memory, image, limit))
 }
 
 // One whole flash run of a DM648 image.
@@ -100,7 +85,7 @@ pub fn ais_dm648_run(map: &[u8], memory: &mut [u8], image: &[u8], limit: u8) -> 
     ensures value { result ≡ flash_value Dialect.Dm648 map.now memory.old image.now limit }
     ensures memory_after { memory.new ≡ flash_memory Dialect.Dm648 map.now memory.old image.now limit }
 {
-    run_image(Dialect::Dm648, map, memory, image, limit, false)
+    report(run_image(Dialect::Dm648, map, memory, image, limit))
 }
 
 // One whole sent session on the line of bytes.
@@ -151,13 +136,6 @@ pub fn ais_bits_session(
     bench_sessions::bits_session(line, dialect, map, chosen, memory, numbers, fed, room)
 }
 
-// The value of a run that is refused before the first command.
-fn refuse_run(refusal: Refusal) -> u64
-    ensures { result ≡ code_of refusal * 2 ^ 56 }
-{
-    (refusal.code() as u64) << 56
-}
-
 // A flash run with numbers from its opening and its choice.
 fn bits_from(
     choice: Choice,
@@ -174,15 +152,15 @@ fn bits_from(
     let opening = opened.refusal;
     let session = opened.session;
     let windows = session.windows;
-    let refusal = bench_sessions::bar(
+    let barred = bench_sessions::bar(
         opening,
         choice,
         numbers.len(),
         memory.len(),
         windows::sum(windows),
     );
-    if refusal.code() != 0 {
-        return refuse_run(refusal);
+    if let Some(refusal) = barred {
+        return bench_sessions::only_refusal(refusal);
     }
     bench_sessions::clear(numbers);
     let count = choice.chosen.count;
@@ -219,7 +197,7 @@ pub fn ais_bits_run(
         numbers.old image.now limit).numbers }
 {
     if 1 < dialect {
-        return refuse_run(Refusal::Call);
+        return bench_sessions::only_refusal(Refusal::Call);
     }
     let opened = Session::open_numbering(
         bench_sessions::dialect_of(dialect),
@@ -237,8 +215,10 @@ pub fn ais_hex_read(text: &[u8], image: &mut [u8]) -> u8
     ensures value { result ≡ code_of (read_answer text.now image.old) }
     ensures image_after { image.new ≡ read_room text.now image.old }
 {
-    let refusal = hex_text::read(text, image);
-    refusal.code()
+    match hex_text::read(text, image) {
+        Ok(()) => 0,
+        Err(refusal) => refusal.code(),
+    }
 }
 
 // An image written out as text: 0 or the refusal.
@@ -246,6 +226,8 @@ pub fn ais_hex_write(image: &[u8], text: &mut [u8]) -> u8
     ensures value { result ≡ code_of (write_answer image.now text.old) }
     ensures text_after { text.new ≡ write_room image.now text.old }
 {
-    let refusal = hex_text::write(image, text);
-    refusal.code()
+    match hex_text::write(image, text) {
+        Ok(()) => 0,
+        Err(refusal) => refusal.code(),
+    }
 }

@@ -2,9 +2,10 @@
 ghost use Rattle.std.specs.Prelude.{◌≡◌, ◌*◌, ◌^◌, ◌≤◌, ◌++◌, length, drop};
 ghost use Rattle.field_register.specs.rules.Reading.{reading_of};
 ghost use Rattle.field_register.specs.rules.Refusals.{field_code};
-ghost use Rattle.bench.specs.rules.Registers.{read_value, name_told, five_written, command_told, bit_told, setting_told};
+ghost use Rattle.bench.specs.rules.Registers.{text_value, read_value, name_told, five_written, command_told, bit_told, setting_told};
 
-use field_register::{FieldRefusal, FoundLine, Reading, Setting};
+use field_lines::FieldLine;
+use field_register::{FieldRefusal, RefusedText};
 use words::Unit;
 
 // The room that a name needs, and that a command needs.
@@ -19,24 +20,22 @@ fn refuse(refusal: FieldRefusal) -> u64
     (refusal.code() as u64) << 32
 }
 
-// The refusal and its line, or the count of lines.
-fn read_value(reading: Reading) -> u64
-    requires { reading.line ≤ 201 }
-    ensures { result ≡ read_value reading }
+// The refusal of a text and its line.
+fn refuse_text(refused: RefusedText) -> u64
+    requires { refused.line ≤ 201 }
+    ensures { result ≡ text_value refused }
 {
-    let refusal = reading.refusal;
-    let number = refusal.code();
-    if number == 0 {
-        return reading.register.count as u64;
-    }
-    ((number as u64) << 32) + (reading.line as u64)
+    ((refused.refusal.code() as u64) << 32) + (refused.line as u64)
 }
 
-// Reads a text.
+// Reads a text: the count of its lines, or its refusal.
 pub fn ais_register_read(text: &[u8]) -> u64
     ensures { result ≡ read_value (reading_of text.now) }
 {
-    read_value(field_register::read(text))
+    match field_register::read(text) {
+        Ok(register) => register.count as u64,
+        Err(refused) => refuse_text(refused),
+    }
 }
 
 // Copies a name to the front of the room.
@@ -49,21 +48,21 @@ fn put_name(room: &mut [u8], name: [u8; 16])
 }
 
 // Puts the name of a line that was found into the room, and gives its first release.
-fn tell_name(found: FoundLine, room: &mut [u8]) -> u64
+fn tell_name(found: Option<FieldLine>, room: &mut [u8]) -> u64
     requires { 16 ≤ length room.old }
     ensures value { result ≡ (name_told found room.old).value }
     ensures room_after { room.new ≡ (name_told found room.old).room }
 {
-    if !found.found {
+    let Some(line) = found else {
         return refuse(FieldRefusal::NoField);
-    }
-    let line = found.line;
+    };
     let name = line.name;
     put_name(room, name);
     line.since as u64
 }
 
 // Which field a bit of a word is in a release: its name, and since when.
+#[tactic(auto, unfolding(crate::specs::rules::Registers::questioned, words::specs::rules::Choice::pick))]
 pub fn ais_register_bit(text: &[u8], word: u32, bit: u32, release: u32, name: &mut [u8]) -> u64
     ensures value { result ≡ (bit_told text.now word bit release name.old).value }
     ensures name_after { name.new ≡ (bit_told text.now word bit release name.old).room }
@@ -71,13 +70,10 @@ pub fn ais_register_bit(text: &[u8], word: u32, bit: u32, release: u32, name: &m
     if name.len() < NAME_ROOM {
         return refuse(FieldRefusal::Room);
     }
-    let reading = field_register::read(text);
-    let refusal = reading.refusal;
-    if refusal.code() != 0 {
-        return read_value(reading);
+    match field_register::read(text) {
+        Ok(register) => tell_name(field_register::field_of(register, word, bit, release), name),
+        Err(refused) => refuse_text(refused),
     }
-    let register = reading.register;
-    tell_name(field_register::field_of(register, word, bit, release), name)
 }
 
 // Writes five words, one after the other.
@@ -92,20 +88,21 @@ fn put_words(room: &mut [u8], words: [u32; 5])
 }
 
 // Puts the words of a command that was made into the room.
-fn tell_command(made: Setting, room: &mut [u8]) -> u64
+fn tell_command(made: Result<[u32; 5], FieldRefusal>, room: &mut [u8]) -> u64
     ensures value { result ≡ (command_told made room.old).value }
     ensures room_after { room.new ≡ (command_told made room.old).room }
 {
-    let refusal = made.refusal;
-    if refusal.code() != 0 {
-        return refuse(refusal);
+    match made {
+        Ok(words) => {
+            put_words(room, words);
+            0
+        }
+        Err(refusal) => refuse(refusal),
     }
-    let words = made.words;
-    put_words(room, words);
-    0
 }
 
 // A field, a release and a value as the words of the command that sets it.
+#[tactic(auto, unfolding(crate::specs::rules::Registers::questioned, words::specs::rules::Choice::pick))]
 pub fn ais_register_command(
     text: &[u8],
     name: &[u8],
@@ -119,14 +116,11 @@ pub fn ais_register_command(
     if command.len() < COMMAND_ROOM {
         return refuse(FieldRefusal::Room);
     }
-    let reading = field_register::read(text);
-    let refusal = reading.refusal;
-    if refusal.code() != 0 {
-        return read_value(reading);
+    match field_register::read(text) {
+        Ok(register) => tell_command(
+            field_register::command(register, name, release, value),
+            command,
+        ),
+        Err(refused) => refuse_text(refused),
     }
-    let register = reading.register;
-    tell_command(
-        field_register::command(register, name, release, value),
-        command,
-    )
 }

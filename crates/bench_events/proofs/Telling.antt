@@ -13,8 +13,8 @@ use Rattle.windows.specs.declared.Window.{Window}
 use Rattle.opcodes.specs.rules.Answers.{code_of}
 use Rattle.opcodes.specs.declared.Dialect.{Dialect}
 use Rattle.opcodes.specs.declared.Event.{Event}
-use Rattle.opcodes.specs.declared.Refusal.{Refusal}
-use Rattle.opcodes.specs.declared.Refusal.TheVariants as refusal
+use Rattle.opcodes.specs.rules.Refusals.{Verdict}
+use Rattle.opcodes.specs.rules.Refusals as refusal
 use Rattle.event_room.specs.rules.Room.{place_after, room_after}
 use Rattle.event_room.proofs.Writing.{place_whole, room_whole}
 use Rattle.flash_session.specs.rules.Opening.{longest, opened_by}
@@ -81,7 +81,7 @@ module _ (dialect : ℕ) (map memory image : List ℕ) (limit : ℕ) (room : Lis
 
 -- an exchange
 module _ (line dialect : ℕ) (map memory image : List ℕ) (tries limit pings : ℕ) (room : List ℕ) where
-  abbrev why : Refusal
+  abbrev why : Verdict
   why = exchange_refused line dialect map (length memory)
 
   abbrev result : SessionOutcome
@@ -96,23 +96,23 @@ module _ (line dialect : ℕ) (map memory image : List ℕ) (tries limit pings :
   unfolding host_events
   host_short named short v = same_outcome v refl refl ∙ sym (passed _ _ _ (ap not named) ∙ chosen _ _ _ short)
 
-  pub host_barred : {q : Refusal} {value : ℕ} → are_named line dialect ≡ true → is_short (length room) limit (length image) ≡ false
+  pub host_barred : {q : Verdict} {value : ℕ} → are_named line dialect ≡ true → is_short (length room) limit (length image) ≡ false
       → q ≡ why → code_of q ≢ 0 → value ≡ code_of q * 2 ^ 56 → outcome value memory room ≡ result
   unfolding host_events
   host_barred named long e some v =
-      same_outcome (v ∙ ap (λ (x : Refusal). code_of x * 2 ^ 56) e) refl refl
+      same_outcome (v ∙ ap (λ (x : Verdict). code_of x * 2 ^ 56) e) refl refl
       ∙ sym (passed _ _ _ (ap not named) ∙ passed _ _ _ long ∙ passed _ _ _ (ne_eqb _ _ (λ none. some (ap code_of e ∙ none))))
 
-  pub host_exchanged : {q : Refusal} {bus : Bus} {family : Dialect} {count : ℕ} {windows : List Window} {e : Exchanged} {value : ℕ} {left laid : List ℕ}
+  pub host_exchanged : {q : Verdict} {bus : Bus} {family : Dialect} {count : ℕ} {windows : List Window} {e : Exchanged} {value : ℕ} {left laid : List ℕ}
       → are_named line dialect ≡ true → is_short (length room) limit (length image) ≡ false → q ≡ why → code_of q ≡ 0
       → bus ≡ line_of line → family ≡ dialect_of dialect → count ≡ count_of map → windows ≡ windows_of map
       → (e ≡ outcome_of (length room) (exchanged (meeting bus family count windows memory image tries limit pings) image))
       × ((left ≡ (exchanged (meeting bus family count windows memory image tries limit pings) image).loader.memory)
       × (laid ≡ room_after room 0 (exchanged (meeting bus family count windows memory image tries limit pings) image).events))
-      → value ≡ told_value e.refusal e.told → outcome value left laid ≡ result
+      → value ≡ told_value (code_of e.refusal) e.told → outcome value left laid ≡ result
   unfolding host_events
   host_exchanged named long q none b d c w ended v =
-      same_outcome (v ∙ ap (λ (x : Exchanged). told_value x.refusal x.told) ended.0) ended.1.0 ended.1.1
+      same_outcome (v ∙ ap (λ (x : Exchanged). told_value (code_of x.refusal) x.told) ended.0) ended.1.0 ended.1.1
       ∙ ap (λ (t : Talk). talk_told (exchanged t image) room) (same_meeting b d c w)
       ∙ sym (passed _ _ _ (ap not named) ∙ passed _ _ _ long ∙ chosen _ _ _ (eq-eqb _ _ (ap code_of (sym q) ∙ none)))
     where

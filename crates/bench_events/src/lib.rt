@@ -11,18 +11,11 @@ ghost use Rattle.bench_events.specs.rules.Events.{is_short, told_value, flash_ev
 use flash_session::Session;
 use opcodes::Refusal;
 
-// The bytes of an image that count, at most the longest.
-fn counted(length: usize) -> usize
-    ensures { result ≡ min length longest }
-{
-    if length < 65536 { length } else { 65536 }
-}
-
-// The bytes of room that the most events take.
+// The bytes of room that the most events take. Of an image at most the longest counts.
 fn room_for(limit: u8, length: usize) -> usize
     ensures { result ≡ 8 * most_events limit length }
 {
-    let waits = counted(length) / 20;
+    let waits = length.min(Session::LONGEST) / 20;
     8 * (((limit as usize) + 1) * waits + 1)
 }
 
@@ -31,13 +24,6 @@ fn is_short(lent: usize, limit: u8, length: usize) -> bool
     ensures { result ≡ is_short lent limit length }
 {
     lent < room_for(limit, length)
-}
-
-// A refusal that is all there is to say.
-fn refuse(refusal: Refusal) -> u64
-    ensures { result ≡ code_of refusal * 2 ^ 56 }
-{
-    (refusal.code() as u64) << 56
 }
 
 // A refusal and a count of events in one number.
@@ -60,10 +46,10 @@ pub fn flash_events(
         ≡ flash_events dialect map.now memory.old image.now limit room.old }
 {
     if 1 < dialect {
-        return refuse(Refusal::Call);
+        return bench_sessions::only_refusal(Refusal::Call);
     }
     if is_short(room.len(), limit, image.len()) {
-        return refuse(Refusal::Room);
+        return bench_sessions::only_refusal(Refusal::Room);
     }
     let opened = Session::open(
         bench_sessions::dialect_of(dialect),
@@ -73,9 +59,7 @@ pub fn flash_events(
         limit,
     );
     let ran = flash_runs::run_told(opened, memory, image, room);
-    let called = ran.called;
-    let refusal = called.refusal;
-    value_of(refusal.code(), ran.told)
+    value_of(opcodes::code_of(ran.called.refusal), ran.told)
 }
 
 // A whole exchange of a freshly opened host and loader, the loader's events told in the room.
@@ -94,14 +78,13 @@ pub fn host_events(
         ≡ host_events line dialect map.now memory.old image.now tries limit pings room.old }
 {
     if !bench_hosts::are_named(line, dialect) {
-        return refuse(Refusal::Call);
+        return bench_sessions::only_refusal(Refusal::Call);
     }
     if is_short(room.len(), limit, image.len()) {
-        return refuse(Refusal::Room);
+        return bench_sessions::only_refusal(Refusal::Room);
     }
-    let refusal = bench_hosts::bar(line, dialect, map, memory.len());
-    if refusal.code() != 0 {
-        return refuse(refusal);
+    if let Some(refusal) = bench_hosts::bar(line, dialect, map, memory.len()) {
+        return bench_sessions::only_refusal(refusal);
     }
     let bus = bench_sessions::line_of(line);
     let exchanged = exchange::exchange(
@@ -116,5 +99,5 @@ pub fn host_events(
         pings,
         room,
     );
-    value_of(exchanged.refusal, exchanged.told)
+    value_of(opcodes::code_of(exchanged.refusal), exchanged.told)
 }

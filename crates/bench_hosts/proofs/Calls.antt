@@ -14,8 +14,8 @@ use Rattle.windows.specs.rules.Window.{sum_of}
 use Rattle.windows.specs.declared.Window.{Window}
 use Rattle.opcodes.specs.rules.Answers.{code_of}
 use Rattle.opcodes.specs.declared.Dialect.{Dialect}
-use Rattle.opcodes.specs.declared.Refusal.{Refusal}
-use Rattle.opcodes.specs.declared.Refusal.TheVariants as refusal
+use Rattle.opcodes.specs.rules.Refusals.{Verdict}
+use Rattle.opcodes.specs.rules.Refusals as refusal
 use Rattle.sent.specs.declared.Bus.{Bus}
 use Rattle.host_answers.specs.rules.Hosts.{heard, opened_by}
 use Rattle.host.specs.rules.Turn.{turned}
@@ -92,7 +92,7 @@ module _ (line dialect : ℕ) (map : List ℕ) (lent : ℕ) where
   barred_none e f g = sym (passed _ _ _ (ap not e) ∙ passed _ _ _ (ap not f) ∙ passed _ _ _ (ap not (eq-eqb _ _ g)))
 
 module _ (line dialect : ℕ) (map memory image : List ℕ) (tries limit pings : ℕ) where
-  abbrev barrier : Refusal
+  abbrev barrier : Verdict
   barrier = exchange_refused line dialect map (length memory)
 
   pub bars : code_of barrier ≢ 0 → leaving (code_of barrier * 2 ^ 56) memory ≡ exchange_session line dialect map memory image tries limit pings
@@ -129,13 +129,13 @@ module _ (host : List ℕ) where
       same_call (v ∙ ap turn_value whole) (l ∙ laid host _ long ∙ ap (λ (x : Turned). written_host x.host) whole) ∙ turns host image long
 
 module _ (line dialect : ℕ) (map memory image : List ℕ) (tries limit pings : ℕ) where
-  pub session_barred : {q : Refusal} {value : ℕ} → q ≡ exchange_refused line dialect map (length memory) → code_of q ≢ 0 → value ≡ code_of q * 2 ^ 56
+  pub session_barred : {q : Verdict} {value : ℕ} → q ≡ exchange_refused line dialect map (length memory) → code_of q ≢ 0 → value ≡ code_of q * 2 ^ 56
       → leaving value memory ≡ exchange_session line dialect map memory image tries limit pings
   session_barred e some v =
-      same_call (v ∙ ap (λ (x : Refusal). code_of x * 2 ^ 56) e) refl
+      same_call (v ∙ ap (λ (x : Verdict). code_of x * 2 ^ 56) e) refl
       ∙ bars line dialect map memory image tries limit pings (λ none. some (ap code_of e ∙ none))
 
-  pub exchanged_call : {q : Refusal} {bus : Bus} {family : Dialect} {count : ℕ} {windows : List Window} {e : Exchanged} {value : ℕ} {left : List ℕ}
+  pub exchanged_call : {q : Verdict} {bus : Bus} {family : Dialect} {count : ℕ} {windows : List Window} {e : Exchanged} {value : ℕ} {left : List ℕ}
       → q ≡ exchange_refused line dialect map (length memory) → code_of q ≡ 0
       → bus ≡ line_of line → family ≡ dialect_of dialect → count ≡ count_of map → windows ≡ windows_of map
       → e ≡ outcome_of 0 (exchanged (meeting bus family count windows memory image tries limit pings) image)

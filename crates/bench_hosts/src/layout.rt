@@ -34,45 +34,28 @@ pub const HOST_BYTES: usize = 41;
 pub fn flag(set: bool) -> u8
     ensures { result ≡ flag_of set }
 {
-    if set { 1 } else { 0 }
+    u8::from(set)
 }
 
 // The number of a line.
 fn line_number(bus: Bus) -> u8
     ensures { result ≡ line_number bus }
 {
-    match bus {
-        Bus::Bytes => 0,
-        Bus::Halves => 1,
-    }
+    bus as u8
 }
 
 // The number of a dialect.
 fn dialect_number(dialect: Dialect) -> u8
     ensures { result ≡ dialect_number dialect }
 {
-    match dialect {
-        Dialect::Am17xx => 0,
-        Dialect::Dm648 => 1,
-    }
+    dialect as u8
 }
 
 // The number of a command.
 fn command_number(command: Command) -> u8
     ensures { result ≡ command_number command }
 {
-    match command {
-        Command::Load => 0,
-        Command::Fill => 1,
-        Command::BootTable => 2,
-        Command::Enable => 3,
-        Command::Disable => 4,
-        Command::Request => 5,
-        Command::StartOver => 6,
-        Command::JumpAndClose => 7,
-        Command::Ping => 8,
-        Command::SequentialRead => 9,
-    }
+    command as u8
 }
 
 // The command of a number; any above 9 counts as 9.
@@ -114,14 +97,10 @@ fn wait_value(wait: Wait) -> u32
     ensures { result ≡ wait_value wait }
 {
     match wait {
-        Wait::Greeting => 0,
-        Wait::Start => 0,
-        Wait::Ping => 0,
         Wait::Echo(k) => k,
-        Wait::Nothing => 0,
         Wait::Opcode(_, end) => end,
         Wait::Over(offset) => offset,
-        Wait::Closing => 0,
+        _ => 0,
     }
 }
 
@@ -130,14 +109,8 @@ fn wait_command(wait: Wait) -> u8
     ensures { result ≡ wait_command wait }
 {
     match wait {
-        Wait::Greeting => 0,
-        Wait::Start => 0,
-        Wait::Ping => 0,
-        Wait::Echo(_) => 0,
-        Wait::Nothing => 0,
         Wait::Opcode(command, _) => command_number(command),
-        Wait::Over(_) => 0,
-        Wait::Closing => 0,
+        _ => 0,
     }
 }
 
@@ -244,7 +217,7 @@ pub fn write_host(bytes: &mut [u8], host: Host)
 fn byte_at(bytes: &[u8], place: usize) -> u8
     ensures { result ≡ get_or bytes.now place 0 }
 {
-    if place < bytes.len() { bytes[place] } else { 0 }
+    bytes.get(place).copied().unwrap_or(0)
 }
 
 // What bytes say of the ear.

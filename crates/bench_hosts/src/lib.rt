@@ -61,9 +61,8 @@ pub fn open_host(
         limit,
         pings,
     );
-    let refusal = opened.refusal;
     layout::write_host(host, opened.host);
-    refusal.code()
+    opcodes::code_of(opened.refusal)
 }
 
 // A host hears a byte.
@@ -97,10 +96,9 @@ fn turn_value(turned: Turned) -> u64
     requires { InImage turned.sending }
     ensures { result ≡ turn_value turned }
 {
-    let refusal = turned.refusal;
     let sending = turned.sending;
     let ended = layout::flag(turned.host.ended);
-    ((refusal.code() as u64) << 56) + ((ended as u64) << 52) + sent_value(sending)
+    ((opcodes::code_of(turned.refusal) as u64) << 56) + ((ended as u64) << 52) + sent_value(sending)
 }
 
 // A host takes a turn.
@@ -108,19 +106,12 @@ pub fn turn_host(host: &mut [u8], image: &[u8]) -> u64
     ensures { leaving result host.new ≡ host_turned host.old image.now }
 {
     if host.len() != layout::HOST_BYTES {
-        return refuse(Refusal::Call);
+        return bench_sessions::only_refusal(Refusal::Call);
     }
     let standing = layout::read_host(host);
     let turned = host::turn(standing, image);
     layout::write_host(host, turned.host);
     turn_value(turned)
-}
-
-// A refusal that is all there is to say.
-fn refuse(refusal: Refusal) -> u64
-    ensures { result ≡ code_of refusal * 2 ^ 56 }
-{
-    (refusal.code() as u64) << 56
 }
 
 // The entry, as a number.
@@ -140,28 +131,28 @@ fn exchange_value(exchanged: Exchanged) -> u64
     ensures { result ≡ exchange_value exchanged }
 {
     let event = exchanged.event;
-    let codes = ((exchanged.refusal as u64) << 56)
+    let codes = ((opcodes::code_of(exchanged.refusal) as u64) << 56)
         + ((exchanged.retries as u64) << 48)
-        + ((exchanged.refused as u64) << 40);
+        + ((opcodes::code_of(exchanged.refused) as u64) << 40);
     codes + entry_value(event)
 }
 
 // Why an exchange does not begin.
-pub fn bar(line: u8, dialect: u8, map: &[u8], lent: usize) -> Refusal
+pub fn bar(line: u8, dialect: u8, map: &[u8], lent: usize) -> Option<Refusal>
     ensures { result ≡ exchange_refused line dialect map.now lent }
 {
     if !are_named(line, dialect) {
-        return Refusal::Call;
+        return Some(Refusal::Call);
     }
     let count = bench_sessions::maps::count_of(map);
     let windows = bench_sessions::maps::windows_of(map);
     if !windows::is_good(count, windows) {
-        return Refusal::Map;
+        return Some(Refusal::Map);
     }
     if lent != windows::sum(windows::kept(count, windows)) {
-        return Refusal::Memory;
+        return Some(Refusal::Memory);
     }
-    Refusal::None
+    None
 }
 
 // A whole exchange of a freshly opened host and loader.
@@ -178,9 +169,8 @@ pub fn exchange_session(
     ensures { leaving result memory.new
         ≡ exchange_session line dialect map.now memory.old image.now tries limit pings }
 {
-    let refusal = bar(line, dialect, map, memory.len());
-    if refusal.code() != 0 {
-        return refuse(refusal);
+    if let Some(refusal) = bar(line, dialect, map, memory.len()) {
+        return bench_sessions::only_refusal(refusal);
     }
     let bus = bench_sessions::line_of(line);
     let mut room = [0u8; 0];

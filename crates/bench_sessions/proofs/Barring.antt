@@ -7,8 +7,8 @@ use lib.Dec.{eqb}
 use borrow.Author.Tests.{eq-eqb, ne_eqb, eqb-true, eqb-false}
 use Rattle.words.proofs.Choice.{chosen, passed, by_test}
 use Rattle.opcodes.specs.rules.Answers.{code_of}
-use Rattle.opcodes.specs.declared.Refusal.{Refusal}
-use Rattle.opcodes.specs.declared.Refusal.TheVariants as refusal
+use Rattle.opcodes.specs.rules.Refusals.{Verdict}
+use Rattle.opcodes.specs.rules.Refusals as refusal
 use Rattle.bit_choice.specs.declared.Choice.{Choice}
 use Rattle.bench_sessions.specs.rules.Numbers.{barred}
 
@@ -17,7 +17,7 @@ pub same_test : (a b x y : ℕ) → (a ≡ b → x ≡ y) → (x ≡ y → a ≡
 same_test a b x y to back =
     by_test (eqb a b) (λ e. e ∙ sym (eq-eqb _ _ (to (eqb-true _ _ e)))) (λ e. e ∙ sym (ne_eqb _ _ (λ h. eqb-false _ _ e (back h))))
 
-module _ (opening : Refusal) (choice : Choice) (numbers memory sum : ℕ) where
+module _ (opening : Verdict) (choice : Choice) (numbers memory sum : ℕ) where
   pub bar_map : code_of opening ≡ 1 → barred opening choice numbers memory sum ≡ opening
   unfolding barred
   bar_map e = chosen _ _ _ (eq-eqb _ _ e)

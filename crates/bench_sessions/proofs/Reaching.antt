@@ -7,8 +7,8 @@ use native.Mathlib.Numerals.{add-one}
 use native.Mathlib.Omega.{arith}
 use lib.Dec.{eqb}
 use borrow.Author.Tests.{eqb-true}
-use lib.ListN.{length, get_or, set, take, drop, length-append, length-take}
-use lib.Seq.{sets, sets-eq, drop-cons, drop-length, get_or-take}
+use lib.ListN.{length, get_or, set, drop, length-append}
+use lib.Seq.{sets, sets-eq, drop-cons, drop-length}
 use Rattle.words.proofs.Choice.{chosen, passed, by_test}
 use Rattle.opcodes.specs.rules.Answers.{code_of}
 use Rattle.sent.specs.rules.Feeding.{State, Heard, heard, fed, answers, replied, first_of, first_refused}
@@ -47,12 +47,11 @@ unfolding first_of
 none_first a = chosen _ _ _ refl
 
 -- one byte of a reply stored, and those after it left to store
-pub byte_turn : (room : List ℕ) (at : ℕ) (bytes : List ℕ) (count i : ℕ) → i < count → i < length bytes
-    → sets (set room (at + i) (get_or bytes i 0)) (at + (i + 1)) (drop (i + 1) (take count bytes)) ≡ sets room (at + i) (drop i (take count bytes))
-byte_turn room at bytes count i low inside =
-    let there : i < length (take count bytes) = omega (arith, length-take count bytes) in
+pub byte_turn : (room : List ℕ) (at : ℕ) (bytes : List ℕ) (i : ℕ) → i < length bytes
+    → sets (set room (at + i) (get_or bytes i 0)) (at + (i + 1)) (drop (i + 1) bytes) ≡ sets room (at + i) (drop i bytes)
+byte_turn room at bytes i inside =
     let next : at + (i + 1) ≡ suc (at + i) = omega arith in
-    rw (next, add-one, drop-cons (take count bytes) i 0 there, get_or-take count bytes i 0 low)
+    rw (next, add-one, drop-cons bytes i 0 inside)
 
 -- no byte left to store
 pub all_stored : (room : List ℕ) (at i : ℕ) (bytes : List ℕ) → i ≡ length bytes → sets room at (drop i bytes) ≡ room

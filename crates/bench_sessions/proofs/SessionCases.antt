@@ -12,8 +12,8 @@ use Rattle.words.proofs.Choice.{chosen, passed, both}
 use Rattle.windows.specs.rules.Window.{sum_of}
 use Rattle.opcodes.specs.rules.Answers.{code_of}
 use Rattle.opcodes.specs.declared.Dialect.{Dialect}
-use Rattle.opcodes.specs.declared.Refusal.{Refusal}
-use Rattle.opcodes.specs.declared.Refusal.TheVariants as refusal
+use Rattle.opcodes.specs.rules.Refusals.{Verdict}
+use Rattle.opcodes.specs.rules.Refusals as refusal
 use Rattle.sent.proofs.Units.{halves_count}
 use Rattle.sent.specs.rules.Bus.{units_fed}
 use Rattle.sent.specs.declared.Bus.{Bus}
@@ -87,31 +87,31 @@ module _ (bus : Bus) (o : Opened) (memory lent room : ℕ) where
 
 -- a session from its opening, with numbers: refused before anything is fed, or fed with the numbers cleared
 module _ (bus : Bus) (o : Opened) (places m numbers bytes room : List ℕ) where
-  abbrev why : Refusal
+  abbrev why : Verdict
   why = refused_before bus o (length m) (length bytes) (length room)
 
-  pub from_refused : {q : Refusal} {value : ℕ} → why ≡ q → code_of q ≢ 0 → value ≡ code_of q * 2 ^ 32
+  pub from_refused : {q : Verdict} {value : ℕ} → why ≡ q → code_of q ≢ 0 → value ≡ code_of q * 2 ^ 32
       → watched value m numbers room ≡ session_watched bus o places m numbers bytes room
   unfolding session_from numbers_from
   from_refused w never e =
-      let none = ne_eqb _ _ (λ z. never (sym (ap (λ (q : Refusal). code_of q) w) ∙ z)) in
+      let none = ne_eqb _ _ (λ z. never (sym (ap (λ (q : Verdict). code_of q) w) ∙ z)) in
       rw (passed _ _ _ none, passed _ _ _ none, w, e) refl
 
   pub from_fed : why ≡ refusal.None
       → watched_fed bus o.reply (begun o m) (units_fed bus bytes) places (cleared numbers) room ≡ session_watched bus o places m numbers bytes room
   unfolding session_from numbers_from
   from_fed w =
-      let goes = eq-eqb _ _ (ap (λ (q : Refusal). code_of q) w) in
+      let goes = eq-eqb _ _ (ap (λ (q : Verdict). code_of q) w) in
       rw (chosen _ _ _ goes, chosen _ _ _ goes) refl
 
 -- a session with numbers from its opening and its choice: barred, or the session from its opening
-module _ (bus : Bus) (o : Opened) (choice : Choice) (m numbers bytes room : List ℕ) {q : Refusal} {sum : ℕ}
+module _ (bus : Bus) (o : Opened) (choice : Choice) (m numbers bytes room : List ℕ) {q : Verdict} {sum : ℕ}
     (asked : q ≡ barred o.refusal choice (length numbers) (length m) sum) (all : sum ≡ sum_of o.session.core.windows) where
-  abbrev bar : Refusal
+  abbrev bar : Verdict
   bar = barred o.refusal choice (length numbers) (length m) (sum_of o.session.core.windows)
 
   same_code : code_of q ≡ code_of bar
-  same_code = ap (λ (q : Refusal). code_of q) asked ∙ ap (λ (n : ℕ). code_of (barred o.refusal choice (length numbers) (length m) n)) all
+  same_code = ap (λ (q : Verdict). code_of q) asked ∙ ap (λ (n : ℕ). code_of (barred o.refusal choice (length numbers) (length m) n)) all
 
   pub watched_barred : {value : ℕ} → code_of q ≢ 0 → value ≡ code_of q * 2 ^ 32 → watched value m numbers room ≡ watched_from bus o choice m numbers bytes room
   unfolding watched_from

@@ -5,7 +5,7 @@ pub mod maps;
 
 ghost use Rattle.std.specs.Prelude.{◌≡◌, ◌+◌, ◌*◌, ◌/◌, ◌%◌, ◌^◌, ◌≤◌, eqb, length, take};
 ghost use Rattle.std.proofs.lemmas.List.Edits.{sets};
-ghost use Rattle.opcodes.specs.rules.Answers.{code_of};
+ghost use Rattle.opcodes.specs.rules.Answers.{number_of, code_of};
 ghost use Rattle.sent.specs.rules.Bus.{units_fed};
 ghost use Rattle.sent.specs.rules.Feeding.{first_of};
 ghost use Rattle.machine_answers.specs.rules.Replies.{sent_bytes};
@@ -48,24 +48,19 @@ fn put_reply(room: &mut [u8], at: usize, reply: Reply) -> usize
     ensures room_after { room.new ≡ sets room.old at (sent_bytes reply) }
 {
     let bytes = reply.bytes;
-    let count = reply.count as usize;
-    let mut i: usize = 0;
-    while i < sent::Session::MOST_REPLY {
-        if count <= i {
-            return at + i;
-        }
-        words::put_byte(room, at + i, bytes[i]);
-        i += 1;
+    let said = &bytes[..(reply.count as usize).min(sent::Session::MOST_REPLY)];
+    for (i, byte) in said.iter().enumerate() {
+        words::put_byte(room, at + i, *byte);
     }
-    at + i
+    at + said.len()
 }
 
 // The first of two refusals.
-fn first_of(first: u8, refusal: Refusal) -> u8
+fn first_of(first: u8, refusal: Option<Refusal>) -> u8
     ensures { result ≡ first_of first (code_of refusal) }
 {
     if first == 0 {
-        return refusal.code();
+        return opcodes::code_of(refusal);
     }
     first
 }
@@ -120,19 +115,16 @@ fn feed_all(
         ≡ watched_fed bus opening (record { session = session; memory = memory.old }) (units_fed bus fed.now)
         (take chosen places.now) numbers.old room.old }
 {
-    let n = units_in(bus, fed.len());
     let mut count = put_reply(room, 0, opening);
     let mut first: u8 = 0;
     let mut live = session;
-    let mut i: usize = 0;
-    while i < n {
+    for i in 0..units_in(bus, fed.len()) {
         let answer = bit_watch::step_at(live, chosen, places, memory, numbers, bus, fed, i);
         let refusal = answer.refusal;
         let reply = answer.reply;
         count = put_reply(room, count, reply);
         first = first_of(first, refusal);
         live = answer.session;
-        i += 1;
     }
     ((first as u64) << 32) + (count as u64)
 }
@@ -153,21 +145,23 @@ fn is_roomy(bus: Bus, lent: usize, room: usize) -> bool
 
 // The value of a session that is refused before anything is fed.
 fn refuse(refusal: Refusal) -> u64
-    ensures { result ≡ code_of refusal * 2 ^ 32 }
+    ensures { result ≡ number_of refusal * 2 ^ 32 }
 {
     (refusal.code() as u64) << 32
+}
+
+// A refusal that is all there is to say in the value of a flash run, a host or an exchange: it stands in the highest byte.
+pub fn only_refusal(refusal: Refusal) -> u64
+    ensures { result ≡ number_of refusal * 2 ^ 56 }
+{
+    (refusal.code() as u64) << 56
 }
 
 // All numbers become 0.
 pub fn clear(numbers: &mut [u8])
     ensures { numbers.new ≡ cleared numbers.old }
 {
-    let n = numbers.len();
-    let mut i: usize = 0;
-    while i < n {
-        words::put_byte(numbers, i, 0);
-        i += 1;
-    }
+    numbers.fill(0);
 }
 
 // A session from its opening.
@@ -186,8 +180,7 @@ fn session_from(
         ≡ session_watched bus opened (take chosen places.now)
         memory.old numbers.old fed.now room.old }
 {
-    let refusal = opened.refusal;
-    if refusal.code() != 0 {
+    if let Some(refusal) = opened.refusal {
         return refuse(refusal);
     }
     let session = opened.session;
@@ -263,27 +256,32 @@ fn is_for(lent: usize, count: usize) -> bool
 }
 
 // Why a session with numbers does not begin, by the opening's refusal and the lengths lent: 1, 24, 3, 4, 2.
-pub fn bar(opening: Refusal, choice: Choice, numbers: usize, memory: usize, sum: usize) -> Refusal
+pub fn bar(
+    opening: Option<Refusal>,
+    choice: Choice,
+    numbers: usize,
+    memory: usize,
+    sum: usize,
+) -> Option<Refusal>
     ensures { result ≡ barred opening choice numbers memory sum }
 {
-    let number = opening.code();
+    let number = opcodes::code_of(opening);
     if number == 1 {
         return opening;
     }
-    let listed = choice.refusal;
-    if listed.code() != 0 {
-        return listed;
+    if choice.refusal.is_some() {
+        return choice.refusal;
     }
-    if number != 0 {
+    if opening.is_some() {
         return opening;
     }
     if !is_for(numbers, choice.chosen.count) {
-        return Refusal::Memory;
+        return Some(Refusal::Memory);
     }
     if memory != sum {
-        return Refusal::Memory;
+        return Some(Refusal::Memory);
     }
-    Refusal::None
+    None
 }
 
 // A session with numbers from its opening and its choice.
@@ -302,14 +300,14 @@ fn watched_from(
 {
     let opening = opened.refusal;
     let windows = opened.session.core.windows;
-    let refusal = bar(
+    let barred = bar(
         opening,
         choice,
         numbers.len(),
         memory.len(),
         windows::sum(windows),
     );
-    if refusal.code() != 0 {
+    if let Some(refusal) = barred {
         return refuse(refusal);
     }
     let count = choice.chosen.count;

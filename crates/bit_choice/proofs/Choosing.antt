@@ -6,54 +6,24 @@ use mathlib.Core.List.{List, [], ◌∷◌, map}
 use mathlib.Core.Path.{◌≡◌, refl, sym, ap, ◌∙◌}
 use native.Mathlib.Numerals.{add-one}
 use native.Mathlib.Omega.{arith}
-use borrow.Author.Tests.{eq-eqb, ne_eqb, le-leb, leb-true}
+use borrow.Author.Tests.{eq-eqb, ne_eqb, leb-true}
 use lib.Dec.{eqb, leb}
-use lib.ListN.{length, get_or, drop, set, replicate, drop_of_length-le}
-use lib.Seq.{drop-cons, sets}
+use lib.ListN.{length, set, replicate}
+use lib.Seq.{sets}
+use Rattle.std.specs.List.{list_any}
 use Rattle.words.specs.rules.Bytes.{word_at}
-use Rattle.words.proofs.Choice.{both, refuted}
-use Rattle.windows.specs.rules.Map.{zero_window}
+use Rattle.words.proofs.Choice.{both}
 use Rattle.windows.specs.claims.Touching.{one_grants}
 use Rattle.windows.specs.rules.Window.{grants_range, some}
 use Rattle.windows.specs.declared.Right.TheVariants.{Set}
 use Rattle.windows.specs.declared.Window.{Window}
 use Rattle.bit_choice.specs.rules.Chosen.{addresses_from, addresses_of, may_be_chosen, among, all_fit, good_choice, word_place, places_of}
 
--- the windows that are left
-module _ (ws : List Window) (i a : ℕ) where
-  pub one_none : length ws ≤ i → false ≡ one_grants (drop i ws) Set a 4
-  unfolding some
-  one_none h = sym (ap (λ (l : List Window). one_grants l Set a 4) (drop_of_length-le ws h))
-
-  module _ (h : i < length ws) where
-    next_window : drop i ws ≡ get_or ws i zero_window ∷ drop (i + 1) ws
-    next_window = rw (add-one, drop-cons ws i zero_window)
-
-    pub one_here : grants_range (get_or ws i zero_window) Set a 4 ≡ true → true ≡ one_grants (drop i ws) Set a 4
-    unfolding some
-    one_here e =
-        sym (
-        ap (λ (l : List Window). one_grants l Set a 4) next_window
-        ∙ ap (λ (t : Bool). t || one_grants (drop (i + 1) ws) Set a 4) e
-        )
-
-    pub one_on : grants_range (get_or ws i zero_window) Set a 4 ≡ false → one_grants (drop (i + 1) ws) Set a 4 ≡ one_grants (drop i ws) Set a 4
-    unfolding some
-    one_on e =
-        sym (
-        ap (λ (l : List Window). one_grants l Set a 4) next_window
-        ∙ ap (λ (t : Bool). t || one_grants (drop (i + 1) ws) Set a 4) e
-        )
-
--- a word that is aligned is judged by the windows
-module _ (ws : List Window) (a : ℕ) where
-  pub aligned : a % 4 ≡ 0 → one_grants ws Set a 4 ≡ may_be_chosen ws a
-  unfolding may_be_chosen
-  aligned e = sym (ap (λ (t : Bool). t && one_grants ws Set a 4) (eq-eqb _ _ e))
-
-  pub unaligned : (a % 4 ≡ 0 → ⊥) → false ≡ may_be_chosen ws a
-  unfolding may_be_chosen
-  unaligned e = sym (ap (λ (t : Bool). t && one_grants ws Set a 4) (ne_eqb _ _ e))
+-- a window of a list grants the word where the library's search finds one
+pub any_grants : (ws : List Window) (a : ℕ) → list_any (λ (w : Window). grants_range w Set a 4) ws ≡ one_grants ws Set a 4
+unfolding some
+any_grants [] a = refl
+any_grants (w ∷ ws) a = ap (λ (t : Bool). grants_range w Set a 4 || t) (any_grants ws a)
 
 -- the addresses that are left of the first count
 abbrev pub left : List ℕ → ℕ → ℕ → List ℕ
@@ -136,19 +106,8 @@ module _ (ws : List Window) (bytes : List ℕ) (count : ℕ) where
 
 -- a whole list
 module _ (ws : List Window) (bytes : List ℕ) where
-  pub not_whole : (length bytes % 4 ≡ 0 → ⊥) → false ≡ good_choice ws bytes
-  unfolding good_choice
-  not_whole e = sym (ap (λ (t : Bool). t && leb (length bytes / 4) 64 && all_fit ws (addresses_of bytes)) (ne_eqb _ _ e))
-
   pub few_chosen : good_choice ws bytes ≡ true → length bytes / 4 ≤ 64
   unfolding good_choice
   few_chosen e =
       let front = (both (eqb (length bytes % 4) 0 && leb (length bytes / 4) 64) (all_fit ws (addresses_of bytes)) e).0 in
       leb-true _ _ (both (eqb (length bytes % 4) 0) (leb (length bytes / 4) 64) front).1
-
-  pub too_many : 64 < length bytes / 4 → false ≡ good_choice ws bytes
-  too_many h = refuted (good_choice ws bytes) (λ e. omega (arith, few_chosen e))
-
-  pub by_fit : length bytes % 4 ≡ 0 → length bytes / 4 ≤ 64 → all_fit ws (addresses_of bytes) ≡ good_choice ws bytes
-  unfolding good_choice
-  by_fit whole few = simp (eq-eqb _ _ whole, le-leb _ _ few)

@@ -1,4 +1,5 @@
 -- 24 in its cases and in no other: the test over the list says of each word what the list of faults says, by induction over the addresses.
+use Rattle.std.specs.Prelude.{Some, unwrap_or}
 use Prim.Native.Nat.{ℕ, zero, suc, ◌+◌, ◌-◌, ◌/◌, ◌%◌, ◌≤◌, ◌<◌}
 use mathlib.Core.Bool.{Bool, true, false, not, ◌&&◌, ◌||◌, true≢false}
 use mathlib.Core.List.{List, [], ◌∷◌, map}
@@ -15,14 +16,13 @@ use Rattle.words.specs.rules.Choice.{pick}
 use Rattle.words.proofs.Choice.{chosen, passed, by_test, both, neither}
 use Rattle.windows.specs.claims.Touching.{one_grants}
 use Rattle.windows.specs.rules.Window.{has_right, inside, end_of, grants_range, chain_grants, place_from, place_of, some}
-use Rattle.windows.specs.declared.Place.TheVariants.{At}
 use Rattle.windows.specs.declared.Right.TheVariants.{Set}
 use Rattle.windows.specs.declared.Window.{Window}
 use Rattle.windows.proofs.Chains.{either, carries_here, chain_here}
 use Rattle.windows.proofs.Laws.{placed_inside}
 use Rattle.windows.proofs.Parts.{granted}
 use Rattle.opcodes.specs.rules.Answers.{code_of}
-use Rattle.bit_choice.specs.rules.Chosen.{addresses_from, addresses_of, may_be_chosen, among, all_fit, good_choice, place_number, word_place, places_of, taken}
+use Rattle.bit_choice.specs.rules.Chosen.{addresses_from, addresses_of, may_be_chosen, among, all_fit, good_choice, word_place, places_of, taken}
 use Rattle.bit_choice.specs.rules.Chosen.{not_taken, choice_of}
 use Rattle.bit_choice.specs.declared.Choice.{Choice}
 use Rattle.bit_choice.specs.claims.Laws.{address_at, Faultless, seam, ChoiceLaws}
@@ -150,26 +150,26 @@ module _ (windows : List Window) (bytes : List ℕ) where
       ∙ take_at ps (drop (0 + length ps) zeros) (length bytes / 4) size
 
 -- a word that one window grants is placed, wherever the windows' bytes begin
-placed_from : (ws : List Window) (a base : ℕ) → one_grants ws Set a 4 ≡ true → place_from base ws Set a 4 ≡ At (place_number (place_from base ws Set a 4))
+placed_from : (ws : List Window) (a base : ℕ) → one_grants ws Set a 4 ≡ true → place_from base ws Set a 4 ≡ Some (unwrap_or (place_from base ws Set a 4) 0)
 unfolding some place_from
 placed_from [] a base e = absurd (true≢false (sym e))
 placed_from (w ∷ ws) a base e =
     by_test (chain_grants w ws Set a 4)
-    (λ t. rw (chosen (chain_grants w ws Set a 4) (At (base + (a - w.first))) (place_from (base + w.length) ws Set a 4) t) refl)
+    (λ t. rw (chosen (chain_grants w ws Set a 4) (Some (base + (a - w.first))) (place_from (base + w.length) ws Set a 4) t) refl)
     (λ f.
     either (grants_range w Set a 4) (one_grants ws Set a 4) e
     (λ g.
     let whole = granted w Set a 4 g in
     absurd (true≢false (sym (chain_here w ws Set a 4 whole.address_held (carries_here ws Set (end_of w) (a + 4) whole.to_end)) ∙ f)))
     (λ later.
-    rw (passed (chain_grants w ws Set a 4) (At (base + (a - w.first))) (place_from (base + w.length) ws Set a 4) f)
+    rw (passed (chain_grants w ws Set a 4) (Some (base + (a - w.first))) (place_from (base + w.length) ws Set a 4) f)
     (placed_from ws a (base + w.length) later)))
 
-word_placed : (windows : List Window) (a : ℕ) → one_grants windows Set a 4 ≡ true → place_of windows Set a 4 ≡ At (word_place windows a)
+word_placed : (windows : List Window) (a : ℕ) → one_grants windows Set a 4 ≡ true → place_of windows Set a 4 ≡ Some (word_place windows a)
 unfolding place_of word_place
 word_placed windows a e = placed_from windows a 0 e
 
-seam_placed : place_of seam Set 0x80000004 4 ≡ At 4
+seam_placed : place_of seam Set 0x80000004 4 ≡ Some 4
 unfolding place_of place_from has_right inside pick
 seam_placed = refl
 

@@ -7,13 +7,13 @@ ghost use Rattle.bit_choice.specs.rules.Chosen.{may_be_chosen, among, addresses_
 ghost use Rattle.bit_choice.specs.rules.Chosen.{choice_of};
 
 use opcodes::Refusal;
-use windows::{Place, Right, Window};
+use windows::{Right, Window};
 
 // The most words that may be chosen.
 pub const MOST_CHOSEN: usize = 64;
 
 // The chosen words: how many they are, and the place of each in the lent memory.
-#[derive(Clone, Copy)]
+#[derive(Clone, Copy, Debug, PartialEq, Eq)]
 pub struct Chosen {
     pub count: usize,
     pub places: [usize; 64],
@@ -22,7 +22,7 @@ pub struct Chosen {
 // A list that is taken, and the words of it; or why it is refused, and none.
 #[derive(Clone, Copy)]
 pub struct Choice {
-    pub refusal: Refusal,
+    pub refusal: Option<Refusal>,
     pub chosen: Chosen,
 }
 
@@ -30,25 +30,17 @@ pub struct Choice {
 fn in_one_window(windows: [Window; 8], address: u32) -> bool
     ensures { result ≡ one_grants windows Right.Set address 4 }
 {
-    let mut i: usize = 0;
-    while i < windows::MOST_WINDOWS {
-        let window = windows[i];
-        if windows::grants(window, Right::Set, address, 4) {
-            return true;
-        }
-        i = i + 1;
-    }
-    false
+    windows
+        .iter()
+        .any(|window| windows::grants(*window, Right::Set, address, 4))
 }
 
 // Is the word at an address one to be chosen?
+#[tactic(auto, unfolding(crate::specs::rules::Chosen::may_be_chosen))]
 fn may_be_chosen(windows: [Window; 8], address: u32) -> bool
     ensures { result ≡ may_be_chosen windows address }
 {
-    if address % 4 == 0 {
-        return in_one_window(windows, address);
-    }
-    false
+    address % 4 == 0 && in_one_window(windows, address)
 }
 
 // Is an address among those of a list from an index on?
@@ -56,12 +48,10 @@ fn comes_again(bytes: &[u8], count: usize, next: usize, address: u32) -> bool
     requires { count ≤ 64 }
     ensures { result ≡ among address (addresses_from bytes.now next (count - next)) }
 {
-    let mut i = next;
-    while i < count {
+    for i in next..count {
         if words::word_at(bytes, 4 * i) == address {
             return true;
         }
-        i = i + 1;
     }
     false
 }
@@ -71,43 +61,33 @@ fn all_fit(windows: [Window; 8], bytes: &[u8], count: usize) -> bool
     requires { count ≤ 64 }
     ensures { result ≡ all_fit windows (addresses_from bytes.now 0 count) }
 {
-    let mut i: usize = 0;
-    while i < count {
+    for i in 0..count {
         let address = words::word_at(bytes, 4 * i);
-        if !may_be_chosen(windows, address) {
+        if !may_be_chosen(windows, address) || comes_again(bytes, count, i + 1, address) {
             return false;
         }
-        if comes_again(bytes, count, i + 1, address) {
-            return false;
-        }
-        i = i + 1;
     }
     true
 }
 
 // Is the list one of whole words, not too many, that may all be chosen?
+#[tactic(auto, unfolding(crate::specs::rules::Chosen::good_choice))]
 fn is_good(windows: [Window; 8], bytes: &[u8]) -> bool
     ensures { result ≡ good_choice windows bytes.now }
 {
-    if bytes.len() % 4 != 0 {
-        return false;
-    }
     let count = bytes.len() / 4;
-    if MOST_CHOSEN < count {
+    if bytes.len() % 4 != 0 || MOST_CHOSEN < count {
         return false;
     }
     all_fit(windows, bytes, count)
 }
 
 // Where a word that may be set lies in the lent memory; 0 for any other.
+#[tactic(auto, unfolding(crate::specs::rules::Chosen::word_place))]
 fn place_of(windows: [Window; 8], address: u32) -> usize
     ensures { result ≡ word_place windows address }
 {
-    let place = windows::locate(windows, Right::Set, address, 4);
-    match place {
-        Place::At(at) => at,
-        Place::Nowhere => 0,
-    }
+    windows::locate(windows, Right::Set, address, 4).unwrap_or(0)
 }
 
 // The places of the first count words, and 0 past them.
@@ -116,12 +96,8 @@ fn places_of(windows: [Window; 8], bytes: &[u8], count: usize) -> [usize; 64]
     ensures { result ≡ places_of windows (addresses_from bytes.now 0 count) }
 {
     let mut places = [0usize; 64];
-    let mut i: usize = 0;
-    while i < count {
-        let address = words::word_at(bytes, 4 * i);
-        let place = place_of(windows, address);
-        places[i] = place;
-        i = i + 1;
+    for i in 0..count {
+        places[i] = place_of(windows, words::word_at(bytes, 4 * i));
     }
     places
 }
@@ -132,7 +108,7 @@ fn not_taken() -> Choice
 {
     let places = [0usize; 64];
     Choice {
-        refusal: Refusal::Chosen,
+        refusal: Some(Refusal::Chosen),
         chosen: Chosen { count: 0, places },
     }
 }
@@ -144,7 +120,7 @@ fn taken_of(windows: [Window; 8], bytes: &[u8], count: usize) -> Choice
 {
     let places = places_of(windows, bytes, count);
     Choice {
-        refusal: Refusal::None,
+        refusal: None,
         chosen: Chosen { count, places },
     }
 }

@@ -1,5 +1,6 @@
 -- What a step tells and does to memory, against what its history has: both stamp the same, where the first bit, the count and the number are the same, or where
 -- there is no bit at all; and a bit of memory is then what the history says of it.
+use Rattle.std.specs.Prelude.{Some, None, Ok}
 use Prim.Native.Nat.{ℕ, ◌+◌, ◌*◌, ◌/◌, ◌%◌, ◌≤◌, ◌<◌}
 use mathlib.Core.Bool.{Bool, true, false, ◌&&◌, or-false}
 use mathlib.Core.List.{List, [], ◌∷◌, ◌++◌}
@@ -14,11 +15,8 @@ use Rattle.words.specs.rules.Choice.{pick}
 use Rattle.words.proofs.Choice.{passed, both}
 use Rattle.words.proofs.Ranges.{above}
 use Rattle.windows.specs.declared.Window.{Window}
-use Rattle.commands.specs.rules.Commands.{shape_of, shape_judged, setting_judged}
+use Rattle.commands.specs.rules.Commands.{shape_of, shape_judged, setting_judged, Shape}
 use Rattle.commands.specs.rules.Wrote.{first_bit, none_wrote, shape_wrote, setting_wrote}
-use Rattle.commands.specs.declared.Judged.TheVariants.{Granted}
-use Rattle.commands.specs.declared.Shape.{Shape}
-use Rattle.commands.specs.declared.Shape.TheVariants.{Bits, Wrong}
 use Rattle.commands.specs.declared.Wrote.{Wrote}
 use Rattle.law_effects.specs.claims.Effects.{Effect, writes, some_writes, Does}
 use Rattle.law_effects.specs.claims.Wrote.{Reports}
@@ -98,13 +96,13 @@ listed (c ∷ []) w before after told given lies = (told.0, record { reports = t
 listed (c ∷ d ∷ cs) w before after told given lies = told
 
 -- a setting that is granted tells by its number: its shape is not wrong
-pub setting_number : (windows : List Window) (word address value place number : ℕ) → setting_judged windows word address value ≡ Granted place
-    → (setting_wrote (Granted place) word number).number ≡ number
+pub setting_number : (windows : List Window) (word address value place number : ℕ) → setting_judged windows word address value ≡ Ok place
+    → (setting_wrote (Ok place) word number).number ≡ number
 setting_number windows word address value place number e = by_shape (shape_of word) e
   where
-    by_shape : (shape : Shape) → shape_judged windows shape address value ≡ Granted place → (shape_wrote place shape number).number ≡ number
-    by_shape Wrong e = absurd (let z : ◌≡◌ {A = ℕ} 0 1 = cc in omega arith)
-    by_shape (Bits unit start width field) e = refl
+    by_shape : (shape : Shape) → shape_judged windows shape address value ≡ Ok place → (shape_wrote place shape number).number ≡ number
+    by_shape None e = absurd (let z : ◌≡◌ {A = ℕ} 0 1 = cc in omega arith)
+    by_shape (Some bits) e = refl
 
 -- the numbers of one command, and of two histories
 pub fit_one : (n : ℕ) (e : Effect) → n < 65536 → numbers_fit (one n e) ≡ true

@@ -1,5 +1,6 @@
 -- Calls of a flash session: what one tells, and what it does to memory, is what its history has. By the tests before the command and by the command: only a
 -- load, a fill and a setting write.
+use Rattle.std.specs.Prelude.{Some, Ok, Err}
 use Prim.Native.Nat.{ℕ, zero, suc, ◌+◌, ◌*◌, ◌≤◌, ◌<◌}
 use mathlib.Core.Bool.{Bool, true, false, not, ◌&&◌}
 use mathlib.Core.List.{List, [], ◌∷◌}
@@ -8,34 +9,32 @@ use native.Mathlib.Omega.{arith}
 use borrow.Author.Tests.{eqb-true, leb-true, leb-false}
 use lib.Dec.{eqb}
 use lib.ListN.{length, drop, replicate, length-take, length-drop}
+use Rattle.std.specs.declared.result.Result.{Result}
+use Rattle.std.specs.declared.result.Result.TheVariants.{Ok, Err}
 use Rattle.words.specs.rules.Bytes.{bytes_at, word_at}
 use Rattle.words.specs.rules.Choice.{pick}
 use Rattle.words.proofs.Choice.{of_choice}
 use Rattle.windows.specs.rules.Window.{sum_of}
-use Rattle.opcodes.specs.rules.Answers.{code_of}
-use Rattle.opcodes.specs.rules.Opcodes.{looked_up}
+use Rattle.opcodes.specs.rules.Answers.{code_of, number_of}
+use Rattle.opcodes.specs.rules.Opcodes.{looked_up, with_words}
 use Rattle.opcodes.specs.declared.Command.{Command}
 use Rattle.opcodes.specs.declared.Command.TheVariants as command
-use Rattle.opcodes.specs.declared.Found.{Found}
-use Rattle.opcodes.specs.declared.Found.TheVariants.{Known, Retired, Unknown}
 use Rattle.opcodes.specs.declared.Mode.TheVariants.{Flash}
+use Rattle.opcodes.specs.declared.Refusal.TheVariants as why
 use Rattle.opcodes.specs.declared.Refusal.{Refusal}
-use Rattle.opcodes.specs.declared.Refusal.TheVariants as refusal
+use Rattle.opcodes.specs.rules.Refusals as refusal
+use Rattle.opcodes.specs.declared.Known.{Known}
+use Rattle.opcodes.proofs.Looked.{Looked, of_row, of_none, of_retired, looked}
 use Rattle.ledger.specs.rules.Totals.{is_spent}
 use Rattle.ledger.specs.declared.Happening.{Happening}
-use Rattle.reading.specs.rules.Reading.{present, words_from, past_words, argument, data_words, read_as, read_at}
-use Rattle.reading.specs.declared.Read.{Read}
-use Rattle.reading.specs.declared.Read.TheVariants as read
+use Rattle.reading.specs.rules.Reading.{present, words_from, past_words, argument, data_words, read_as, read_at, unread}
+use Rattle.reading.specs.declared.Unread.{Unread}
 use Rattle.commands.specs.rules.Commands.{barred, load_judged, unit_of, fill_judged, fill_done, fill_memory, shape_of, setting_judged, setting_done}
 use Rattle.commands.specs.rules.Commands.{setting_memory}
-use Rattle.commands.specs.rules.Commands.{sought_from}
+use Rattle.commands.specs.rules.Commands.{sought_from, Judged, Sought}
 use Rattle.stores.specs.rules.Stores.{loaded}
 use Rattle.commands.specs.rules.Wrote.{none_wrote, bytes_wrote}
 use Rattle.commands.specs.declared.Done.{Done}
-use Rattle.commands.specs.declared.Judged.{Judged}
-use Rattle.commands.specs.declared.Judged.TheVariants.{Granted, Refused}
-use Rattle.commands.specs.declared.Sought.{Sought}
-use Rattle.commands.specs.declared.Sought.TheVariants as sought
 use Rattle.law_effects.specs.claims.Effects.{Effect, load_effect, fill_effect, setting_effect}
 use Rattle.law_effects.specs.claims.Wrote.{Tells}
 use Rattle.law_effects.proofs.Wrote.{commands_tell}
@@ -91,7 +90,7 @@ module _ (s : Session) (m image : List ℕ) where
       length-take size (drop at image) ∙ omega (arith, length-drop at image, there)
 
   -- a load that is granted, by whether its data are there and a number is left
-  module _ (next address size place : ℕ) (granted : load_judged s.windows address size ≡ Granted place) (lent : length m ≡ sum_of s.windows) where
+  module _ (next address size place : ℕ) (granted : load_judged s.windows address size ≡ Ok place) (lent : length m ≡ sum_of s.windows) where
     abbrev bytes : List ℕ
     bytes = bytes_at image next size
 
@@ -103,9 +102,9 @@ module _ (s : Session) (m image : List ℕ) where
         pick (not there) (stopped refusal.Missing s leaving m)
         (pick spent (stopped refusal.Number s leaving m) (load_done s m image next address size place))
 
-    load_tells : length bytes ≡ size → Tells (load_effect place bytes) (bytes_wrote (Granted place) size s.totals.next) m (loaded m place bytes)
+    load_tells : length bytes ≡ size → Tells (load_effect place bytes) (bytes_wrote (Ok place) size s.totals.next) m (loaded m place bytes)
     load_tells whole =
-        subst (λ (n : ℕ). Tells (load_effect place bytes) (bytes_wrote (Granted place) n s.totals.next) m (loaded m place bytes)) whole
+        subst (λ (n : ℕ). Tells (load_effect place bytes) (bytes_wrote (Ok place) n s.totals.next) m (loaded m place bytes)) whole
         (commands_tell.load s.windows m lent address place s.totals.next bytes
         (ap (load_judged s.windows address) whole ∙ granted))
 
@@ -123,13 +122,13 @@ module _ (s : Session) (m image : List ℕ) where
 
   -- a load, by its judgement
   load_shown : (next address size : ℕ) (j : Judged) (past : Bool) → load_judged s.windows address size ≡ j → length m ≡ sum_of s.windows
-      → Shown m (load_judged_as s m image next address size (barred past refusal.Overflow j))
-      (added (load_judged_as s m image next address size (barred past refusal.Overflow j))
+      → Shown m (load_judged_as s m image next address size (barred past why.Overflow j))
+      (added (load_judged_as s m image next address size (barred past why.Overflow j))
       (judged_one s.totals.next j (λ place. load_effect place (bytes_at image next size))))
   unfolding pick
-  load_shown next address size (Refused q) past e lent = idle_choice m (stopped q s leaving m) (eqb (code_of q) 0) (record { wrote = refl; memory = refl })
-  load_shown next address size (Granted place) true e lent = idle_shown m (stopped refusal.Overflow s leaving m) (record { wrote = refl; memory = refl })
-  load_shown next address size (Granted place) false e lent = load_at_shown next address size place e lent
+  load_shown next address size (Err q) past e lent = idle_choice m (stopped (Some q) s leaving m) (eqb (number_of q) 0) (record { wrote = refl; memory = refl })
+  load_shown next address size (Ok place) true e lent = idle_shown m (stopped refusal.Overflow s leaving m) (record { wrote = refl; memory = refl })
+  load_shown next address size (Ok place) false e lent = load_at_shown next address size place e lent
 
   -- an answer that tells nothing where it is accepted tells nothing
   none_after : (happened : Happening) (done : Done) (n : ℕ) → (after s happened none_wrote done n).wrote ≡ none_wrote
@@ -144,20 +143,20 @@ module _ (s : Session) (m image : List ℕ) where
     abbrev filling : Judged → CallOutcome
     filling j = fill_judged_as s m next address size kind pattern j
 
-    fill_refused : (q : Refusal) → Idle m (filling (Refused q))
+    fill_refused : (q : Refusal) → Idle m (filling (Err q))
     unfolding fill_memory
     fill_refused q = record { wrote = none_after _ _ next; memory = refl }
 
     fill_shown : (j : Judged) (past spent : Bool) → is_spent s.totals ≡ spent → fill_judged s.windows address size kind ≡ j
         → length m ≡ sum_of s.windows
-        → Shown m (filling (barred spent refusal.Number (barred past refusal.Overflow j)))
-        (added (filling (barred spent refusal.Number (barred past refusal.Overflow j))) (fills j))
+        → Shown m (filling (barred spent why.Number (barred past why.Overflow j)))
+        (added (filling (barred spent why.Number (barred past why.Overflow j))) (fills j))
     unfolding pick after fill_done
-    fill_shown (Refused q) past spent e f lent = idle_choice m (filling (Refused q)) (eqb (code_of (filling (Refused q)).answer.refusal) 0) (fill_refused q)
-    fill_shown (Granted place) true spent e f lent = idle_shown m (filling (Refused refusal.Overflow)) (fill_refused refusal.Overflow)
-    fill_shown (Granted place) false true e f lent = idle_shown m (filling (Refused refusal.Number)) (fill_refused refusal.Number)
-    fill_shown (Granted place) false false e f lent =
-        one_shown m (filling (Granted place)) s.totals.next (fill_effect place size (unit_of kind) pattern) (leb-false _ _ e) refl
+    fill_shown (Err q) past spent e f lent = idle_choice m (filling (Err q)) (eqb (code_of (filling (Err q)).answer.refusal) 0) (fill_refused q)
+    fill_shown (Ok place) true spent e f lent = idle_shown m (filling (Err why.Overflow)) (fill_refused why.Overflow)
+    fill_shown (Ok place) false true e f lent = idle_shown m (filling (Err why.Number)) (fill_refused why.Number)
+    fill_shown (Ok place) false false e f lent =
+        one_shown m (filling (Ok place)) s.totals.next (fill_effect place size (unit_of kind) pattern) (leb-false _ _ e) refl
         (commands_tell.fill s.windows m lent address size kind pattern place s.totals.next f)
 
   -- a setting, likewise
@@ -168,25 +167,25 @@ module _ (s : Session) (m image : List ℕ) where
     abbrev setting : Judged → CallOutcome
     setting j = setting_judged_as s m next word value delay j
 
-    setting_refused : (q : Refusal) → Idle m (setting (Refused q))
+    setting_refused : (q : Refusal) → Idle m (setting (Err q))
     unfolding setting_memory
     setting_refused q = record { wrote = none_after _ _ next; memory = refl }
 
     setting_shown : (j : Judged) (spent : Bool) → is_spent s.totals ≡ spent → setting_judged s.windows word address value ≡ j
         → length m ≡ sum_of s.windows
-        → Shown m (setting (barred spent refusal.Number j)) (added (setting (barred spent refusal.Number j)) (sets j))
+        → Shown m (setting (barred spent why.Number j)) (added (setting (barred spent why.Number j)) (sets j))
     unfolding pick after setting_done
-    setting_shown (Refused q) spent e f lent = idle_choice m (setting (Refused q)) (eqb (code_of (setting (Refused q)).answer.refusal) 0) (setting_refused q)
-    setting_shown (Granted place) true e f lent = idle_shown m (setting (Refused refusal.Number)) (setting_refused refusal.Number)
-    setting_shown (Granted place) false e f lent =
-        one_shown m (setting (Granted place)) s.totals.next (setting_effect place (shape_of word) value) (leb-false _ _ e)
+    setting_shown (Err q) spent e f lent = idle_choice m (setting (Err q)) (eqb (code_of (setting (Err q)).answer.refusal) 0) (setting_refused q)
+    setting_shown (Ok place) true e f lent = idle_shown m (setting (Err why.Number)) (setting_refused why.Number)
+    setting_shown (Ok place) false e f lent =
+        one_shown m (setting (Ok place)) s.totals.next (setting_effect place (shape_of word) value) (leb-false _ _ e)
         (setting_number s.windows word address value place s.totals.next f)
         (commands_tell.setting s.windows m lent word address value place s.totals.next f)
 
   -- a Request tells nothing
   none_sought : (to : Sought) → (sought_as s to).wrote ≡ none_wrote
-  none_sought (sought.To offset) = refl
-  none_sought (sought.Refused q) = refl
+  none_sought (Ok offset) = refl
+  none_sought (Err q) = refl
 
   none_requested : (next expected seek : ℕ) → (requested s next expected seek).wrote ≡ none_wrote
   unfolding requested
@@ -213,9 +212,9 @@ module _ (s : Session) (m image : List ℕ) where
 module _ (s : Session) (m image : List ℕ) where
   -- a command with its words there; that they were fetched is nothing to its history
   fetched_shown : (c : Command) (words : ℕ) → length m ≡ sum_of s.windows
-      → Shown m (followed s m image (read.Whole c words)) (added (followed s m image (read.Whole c words)) (accepted_command c words s image))
+      → Shown m (followed s m image (Ok (with_words c words))) (added (followed s m image (Ok (with_words c words))) (accepted_command c words s image))
   fetched_shown c words lent =
-      subst (λ (cs : List Numbered). Shown m (followed s m image (read.Whole c words)) (added (followed s m image (read.Whole c words)) cs))
+      subst (λ (cs : List Numbered). Shown m (followed s m image (Ok (with_words c words))) (added (followed s m image (Ok (with_words c words))) cs))
       (same c) (command_shown (fetching (1 + words) s) m image c words lent)
     where
       same : (c : Command) → accepted_command c words (fetching (1 + words) s) image ≡ accepted_command c words s image
@@ -232,28 +231,28 @@ module _ (s : Session) (m image : List ℕ) where
 
   -- what is read where words are missing, and the command
   missing_shown : (n : ℕ) (cs : List Numbered)
-      → Shown m (followed s m image (read.Refused refusal.Missing n)) (added (followed s m image (read.Refused refusal.Missing n)) cs)
+      → Shown m (followed s m image (Err (unread why.Missing n))) (added (followed s m image (Err (unread why.Missing n))) cs)
   unfolding pick
-  missing_shown n cs = idle_shown m (followed s m image (read.Refused refusal.Missing n)) (record { wrote = refl; memory = refl })
+  missing_shown n cs = idle_shown m (followed s m image (Err (unread why.Missing n))) (record { wrote = refl; memory = refl })
 
-  by_words : (there : Bool) (n : ℕ) (r : Read) (cs : List Numbered) → Shown m (followed s m image r) (added (followed s m image r) cs)
-      → Shown m (followed s m image (pick (not there) (read.Refused refusal.Missing n) r))
-      (added (followed s m image (pick (not there) (read.Refused refusal.Missing n) r)) cs)
+  by_words : (there : Bool) (n : ℕ) (r : Result Known Unread) (cs : List Numbered) → Shown m (followed s m image r) (added (followed s m image r) cs)
+      → Shown m (followed s m image (pick (not there) (Err (unread why.Missing n)) r))
+      (added (followed s m image (pick (not there) (Err (unread why.Missing n)) r)) cs)
   unfolding pick
   by_words true n r cs shown = shown
   by_words false n r cs shown = missing_shown n cs
 
-  row_shown : (found : Found) → length m ≡ sum_of s.windows
+  row_shown : {found : Result Known Refusal} → Looked found → length m ≡ sum_of s.windows
       → Shown m (followed s m image (read_as image s.offset found))
       (added (followed s m image (read_as image s.offset found)) (accepted_row found s image))
-  row_shown Unknown lent = idle_choice m _ _ (record { wrote = refl; memory = refl })
-  row_shown Retired lent = idle_choice m _ _ (record { wrote = refl; memory = refl })
-  row_shown (Known c words) lent =
-      by_words (present image s.offset (1 + words)) (words_from image s.offset) (read.Whole c words) (accepted_command c words s image)
-      (fetched_shown c words lent)
+  row_shown of_none lent = idle_choice m _ _ (record { wrote = refl; memory = refl })
+  row_shown of_retired lent = idle_choice m _ _ (record { wrote = refl; memory = refl })
+  row_shown (of_row f) lent =
+      by_words (present image s.offset (1 + f.words)) (words_from image s.offset) (Ok f) (accepted_command f.command f.words s image)
+      (fetched_shown f.command f.words lent)
 
   -- the call by its three tests
-  abbrev found : Found
+  abbrev found : Result Known Refusal
   found = looked_up (word_at image s.offset) Flash s.dialect
 
   abbrev tested : Bool → Bool → Bool → CallOutcome
@@ -267,7 +266,9 @@ module _ (s : Session) (m image : List ℕ) where
       → Shown m (followed s m image (read_at image s.offset s.dialect))
       (added (followed s m image (read_at image s.offset s.dialect)) (accepted_row found s image))
   unfolding read_at
-  read_shown lent = by_words (present image s.offset 1) 0 (read_as image s.offset found) (accepted_row found s image) (row_shown found lent)
+  read_shown lent =
+      by_words (present image s.offset 1) 0 (read_as image s.offset found) (accepted_row found s image)
+      (row_shown (looked (word_at image s.offset) Flash s.dialect) lent)
 
   by_tests : (ended right good : Bool) → (right ≡ true → length m ≡ sum_of s.windows)
       → Shown m (tested ended right good) (added (tested ended right good) (accepted_row found s image))

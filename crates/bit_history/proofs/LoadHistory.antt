@@ -1,5 +1,7 @@
 -- A load by line as a whole. The units of a word list what the word lists, so the history is that of the words; what these tell is the whole load's, and what
 -- they leave in memory too, so each bit that is listed is listed with the load's number and value.
+use Rattle.opcodes.specs.declared.Refusal.TheVariants as why
+use Rattle.std.specs.Prelude.{Ok}
 use Prim.Native.Nat.{ℕ, zero, suc, ◌+◌, ◌-◌, ◌*◌, ◌/◌, ◌^◌, ◌≤◌, ◌<◌, min}
 use mathlib.Core.Bool.{Bool, true, false, not, ◌&&◌, ◌||◌, or-true, or-false, true≢false}
 use mathlib.Core.List.{List, [], ◌∷◌, ◌++◌, append-nil, append_assoc}
@@ -18,12 +20,9 @@ use Rattle.opcodes.specs.rules.Answers.{code_of, accepted}
 use Rattle.opcodes.specs.declared.Command.TheVariants as command
 use Rattle.opcodes.specs.declared.Dialect.{Dialect}
 use Rattle.opcodes.specs.declared.Dialect.TheVariants.{Am17xx, Dm648}
-use Rattle.opcodes.specs.declared.Refusal.TheVariants as refusal
 use Rattle.ledger.specs.rules.Totals.{counted, first_spent, is_spent, following, numbered, would_pass}
 use Rattle.ledger.specs.declared.Totals.{Totals}
-use Rattle.commands.specs.rules.Commands.{barred, range_judged, load_judged}
-use Rattle.commands.specs.declared.Judged.{Judged}
-use Rattle.commands.specs.declared.Judged.TheVariants.{Granted}
+use Rattle.commands.specs.rules.Commands.{barred, range_judged, load_judged, Judged}
 use Rattle.commands.specs.declared.Wrote.{Wrote}
 use Rattle.law_effects.specs.claims.Effects.{Effect, writes, becomes, some_writes, DoesInside}
 use Rattle.law_effects.proofs.Effects.{load_does, load_granted}
@@ -252,8 +251,8 @@ taken_number dialect t size left = by_dialect dialect
 
 -- a granted load that is not refused at its size word has found a number and passed no total
 size_granted : (k : Core) (address size place : ℕ) (past spent : Bool)
-    → code_of (load_begun k address size (barred spent refusal.Number (barred past refusal.Overflow (Granted place)))).refusal ≡ 0
-    → barred spent refusal.Number (barred past refusal.Overflow (Granted place)) ≡ Granted place
+    → code_of (load_begun k address size (barred spent why.Number (barred past why.Overflow (Ok place)))).refusal ≡ 0
+    → barred spent why.Number (barred past why.Overflow (Ok place)) ≡ Ok place
 unfolding pick
 size_granted k address size place true spent e = absurd (eqb-false 18 0 refl e)
 size_granted k address size place false true e = absurd (eqb-false 25 0 refl e)
@@ -267,14 +266,14 @@ module _ (bus : Bus) (k : Core) (m : List ℕ) (size place : ℕ) (words : List 
   units = all_units bus (size ∷ words)
 
   abbrev sized : Core
-  sized = (load_begun k at.kept.third size (Granted place)).core
+  sized = (load_begun k at.kept.third size (Ok place)).core
 
   -- the size word: it is performed, and lists nothing
   performs : word_step k m size ≡ performed command.Load k m at.kept size
   unfolding word_step
   performs = ap (λ (x : Phase). in_phase x k m size) at.awaits ∙ chosen _ _ _ refl
 
-  granted : out_of_numbers k (overflowing k size (load_judged k.windows at.kept.third size)) ≡ Granted place
+  granted : out_of_numbers k (overflowing k size (load_judged k.windows at.kept.third size)) ≡ Ok place
   granted =
       ap (λ (j : Judged). out_of_numbers k (overflowing k size j)) at.granted
       ∙ size_granted k at.kept.third size place (would_pass k.dialect k.tally.totals size) (is_spent k.tally.totals)
@@ -282,7 +281,7 @@ module _ (bus : Bus) (k : Core) (m : List ℕ) (size place : ℕ) (words : List 
       ∙ ap (λ (j : Judged). code_of (load_begun k at.kept.third size (out_of_numbers k (overflowing k size j))).refusal) at.granted)
       ∙ at.taken)
 
-  size_step : word_step k m size ≡ load_begun k at.kept.third size (Granted place) leaving m
+  size_step : word_step k m size ≡ load_begun k at.kept.third size (Ok place) leaving m
   size_step = performs ∙ ap (λ (j : Judged). load_begun k at.kept.third size j leaving m) granted
 
   size_lists : word_history k m size ≡ []

@@ -13,8 +13,8 @@ use Rattle.words.proofs.Choice.{of_choice}
 use Rattle.windows.specs.rules.Window.{sum_of}
 use Rattle.windows.specs.declared.Window.{Window}
 use Rattle.opcodes.specs.declared.Dialect.{Dialect}
-use Rattle.opcodes.specs.declared.Refusal.{Refusal}
-use Rattle.opcodes.specs.declared.Refusal.TheVariants as refusal
+use Rattle.opcodes.specs.rules.Refusals.{Verdict}
+use Rattle.opcodes.specs.rules.Refusals as refusal
 use Rattle.bit_stamps.specs.rules.Stamps.{entry_at}
 use Rattle.bit_history.specs.claims.History.{Numbered, LeftBy, numbers_fit, stamped_all}
 use Rattle.bit_history.proofs.History.{history_laws}
@@ -45,7 +45,7 @@ module _ (bus : Bus) (s : Session) (m : List ℕ) (u : ℕ) where
     sound : Sound s.core → Sound o.answer.session.core
 
   -- a unit that is no whole word
-  plain_shown : (q : Refusal) (reply : Reply) (t : Session) → (Sound s.core → Sound t.core) → Shown (plainly q reply t m) []
+  plain_shown : (q : Verdict) (reply : Reply) (t : Session) → (Sound s.core → Sound t.core) → Shown (plainly q reply t m) []
   unfolding numbers_fit
   plain_shown q reply t keeps =
       record { told = refl; fits = λ h. refl; given = refl; inside = λ h. tt; sound = keeps }

@@ -1,5 +1,6 @@
 -- A whole word: what it tells, and what it gives to memory, is what its history has, its numbers fit, and the machine stays sound. By the phase that awaits it
 -- and, at the last argument, by the command: only a fill, a setting and load data write.
+use Rattle.std.specs.Prelude.{Ok, Err}
 use Prim.Native.Nat.{ℕ, ◌+◌, ◌-◌, ◌*◌, ◌≤◌, min}
 use mathlib.Core.Bool.{Bool, true, false}
 use mathlib.Core.List.{List, []}
@@ -8,6 +9,7 @@ use native.Mathlib.Omega.{arith}
 use borrow.Author.Tests.{eqb-true, leb-false}
 use lib.Dec.{leb, eqb}
 use lib.ListN.{length, length-take}
+use Rattle.std.specs.declared.result.Result.{Result}
 use Rattle.words.specs.rules.Choice.{pick}
 use Rattle.words.proofs.Choice.{chosen, passed, of_choice}
 use Rattle.windows.specs.rules.Window.{sum_of}
@@ -18,20 +20,18 @@ use Rattle.opcodes.specs.declared.Command.{Command}
 use Rattle.opcodes.specs.declared.Command.TheVariants as command
 use Rattle.opcodes.specs.declared.Dialect.{Dialect}
 use Rattle.opcodes.specs.declared.Dialect.TheVariants.{Am17xx, Dm648}
-use Rattle.opcodes.specs.declared.Found.{Found}
-use Rattle.opcodes.specs.declared.Found.TheVariants.{Known, Retired, Unknown}
 use Rattle.opcodes.specs.declared.Mode.TheVariants.{Sent}
+use Rattle.opcodes.specs.declared.Refusal.TheVariants as why
 use Rattle.opcodes.specs.declared.Refusal.{Refusal}
-use Rattle.opcodes.specs.declared.Refusal.TheVariants as refusal
 use Rattle.opcodes.proofs.Counts.{row_is, row-is}
+use Rattle.opcodes.specs.declared.Known.{Known}
+use Rattle.opcodes.proofs.Looked.{Looked, of_row, of_none, of_retired, looked}
 use Rattle.ledger.specs.rules.Totals.{counted, first_spent, is_spent, following, numbered, settled, turned}
 use Rattle.ledger.specs.declared.Totals.{Totals}
 use Rattle.commands.specs.rules.Commands.{barred, load_judged, unit_of, fill_judged, fill_done, fill_memory, shape_of, setting_judged, setting_done}
-use Rattle.commands.specs.rules.Commands.{setting_memory}
+use Rattle.commands.specs.rules.Commands.{setting_memory, Judged}
 use Rattle.commands.specs.rules.Wrote.{none_wrote, bytes_wrote, setting_wrote}
 use Rattle.commands.specs.declared.Done.{Done}
-use Rattle.commands.specs.declared.Judged.{Judged}
-use Rattle.commands.specs.declared.Judged.TheVariants.{Granted, Refused}
 use Rattle.law_effects.specs.claims.Effects.{fill_effect, setting_effect}
 use Rattle.law_effects.proofs.Effects.{load_does, fill_granted, setting_granted}
 use Rattle.law_effects.proofs.Wrote.{fill_reports, shape_reports}
@@ -144,13 +144,13 @@ lies_awaited windows end left h l = of_choice (Lies windows) _ (λ e. tt) (λ e.
 
 module _ (k : Core) (m : List ℕ) where
   -- a load at its size word writes nothing
-  load_idle : (address size : ℕ) (j : Judged) (past spent : Bool) → ((place : ℕ) → j ≡ Granted place → place + size ≤ sum_of k.windows)
-      → Idle k m (load_begun k address size (barred spent refusal.Number (barred past refusal.Overflow j)) leaving m)
+  load_idle : (address size : ℕ) (j : Judged) (past spent : Bool) → ((place : ℕ) → j ≡ Ok place → place + size ≤ sum_of k.windows)
+      → Idle k m (load_begun k address size (barred spent why.Number (barred past why.Overflow j)) leaving m)
   unfolding pick
-  load_idle address size (Refused q) past spent inside = record { wrote = refl; memory = refl; sound = λ s. s }
-  load_idle address size (Granted place) true spent inside = record { wrote = refl; memory = refl; sound = λ s. s }
-  load_idle address size (Granted place) false true inside = record { wrote = refl; memory = refl; sound = λ s. s }
-  load_idle address size (Granted place) false false inside =
+  load_idle address size (Err q) past spent inside = record { wrote = refl; memory = refl; sound = λ s. s }
+  load_idle address size (Ok place) true spent inside = record { wrote = refl; memory = refl; sound = λ s. s }
+  load_idle address size (Ok place) false true inside = record { wrote = refl; memory = refl; sound = λ s. s }
+  load_idle address size (Ok place) false false inside =
       record {
         wrote = refl;
         memory = refl;
@@ -209,25 +209,25 @@ module _ (k : Core) (m : List ℕ) where
     fill_sound : (j : Judged) → Sound k → Sound (filling j).answer.core
     fill_sound j s = sound_after k (counted_on k size) _ (fit_section k size s.0) s
 
-    fill_refused : (q : Refusal) → Idle k m (filling (Refused q))
+    fill_refused : (q : Refusal) → Idle k m (filling (Err q))
     unfolding fill_memory
-    fill_refused q = record { wrote = refl; memory = refl; sound = fill_sound (Refused q) }
+    fill_refused q = record { wrote = refl; memory = refl; sound = fill_sound (Err q) }
 
     fill_shown : (j : Judged) (past spent : Bool) → is_spent k.tally.totals ≡ spent → fill_judged k.windows address size kind ≡ j
-        → Shown k m (filling (barred spent refusal.Number (barred past refusal.Overflow j)))
-        (pick (eqb (code_of (filling (barred spent refusal.Number (barred past refusal.Overflow j))).answer.refusal) 0) (fills j) [])
+        → Shown k m (filling (barred spent why.Number (barred past why.Overflow j)))
+        (pick (eqb (code_of (filling (barred spent why.Number (barred past why.Overflow j))).answer.refusal) 0) (fills j) [])
     unfolding pick after fill_done
-    fill_shown (Refused q) past spent e f = idle_choice k m (filling (Refused q)) (eqb (code_of (filling (Refused q)).answer.refusal) 0) (fill_refused q)
-    fill_shown (Granted place) true spent e f = idle_shown k m (filling (Refused refusal.Overflow)) (fill_refused refusal.Overflow)
-    fill_shown (Granted place) false true e f = idle_shown k m (filling (Refused refusal.Number)) (fill_refused refusal.Number)
-    fill_shown (Granted place) false false e f =
+    fill_shown (Err q) past spent e f = idle_choice k m (filling (Err q)) (eqb (code_of (filling (Err q)).answer.refusal) 0) (fill_refused q)
+    fill_shown (Ok place) true spent e f = idle_shown k m (filling (Err why.Overflow)) (fill_refused why.Overflow)
+    fill_shown (Ok place) false true e f = idle_shown k m (filling (Err why.Number)) (fill_refused why.Number)
+    fill_shown (Ok place) false false e f =
         let n : ℕ = k.tally.totals.next in
         record {
           told = (refl, fill_reports k.windows address size kind pattern place n f);
           fits = λ s. fit_one _ _ (leb-false _ _ e);
           given = λ lent. (fill_granted k.windows m lent address size kind pattern f).does;
           inside = λ s lent. (fill_granted k.windows m lent address size kind pattern f).lies;
-          sound = fill_sound (Granted place);
+          sound = fill_sound (Ok place);
         }
 
   -- a setting, likewise
@@ -243,24 +243,24 @@ module _ (k : Core) (m : List ℕ) where
     setting_sound : (j : Judged) → Sound k → Sound (setting j).answer.core
     setting_sound j s = sound_after k (numbered k.tally.totals) _ (fit_numbered k.tally.totals s.0) s
 
-    setting_refused : (q : Refusal) → Idle k m (setting (Refused q))
+    setting_refused : (q : Refusal) → Idle k m (setting (Err q))
     unfolding setting_memory
-    setting_refused q = record { wrote = refl; memory = refl; sound = setting_sound (Refused q) }
+    setting_refused q = record { wrote = refl; memory = refl; sound = setting_sound (Err q) }
 
     setting_shown : (j : Judged) (spent : Bool) → is_spent k.tally.totals ≡ spent → setting_judged k.windows word address value ≡ j
-        → Shown k m (setting (barred spent refusal.Number j))
-        (pick (eqb (code_of (setting (barred spent refusal.Number j)).answer.refusal) 0) (sets j) [])
+        → Shown k m (setting (barred spent why.Number j))
+        (pick (eqb (code_of (setting (barred spent why.Number j)).answer.refusal) 0) (sets j) [])
     unfolding pick after setting_done
-    setting_shown (Refused q) spent e f = idle_choice k m (setting (Refused q)) (eqb (code_of (setting (Refused q)).answer.refusal) 0) (setting_refused q)
-    setting_shown (Granted place) true e f = idle_shown k m (setting (Refused refusal.Number)) (setting_refused refusal.Number)
-    setting_shown (Granted place) false e f =
+    setting_shown (Err q) spent e f = idle_choice k m (setting (Err q)) (eqb (code_of (setting (Err q)).answer.refusal) 0) (setting_refused q)
+    setting_shown (Ok place) true e f = idle_shown k m (setting (Err why.Number)) (setting_refused why.Number)
+    setting_shown (Ok place) false e f =
         let n : ℕ = k.tally.totals.next in
         record {
           told = (setting_number k.windows word address value place n f, shape_reports place value n (shape_of word));
           fits = λ s. fit_one _ _ (leb-false _ _ e);
           given = λ lent. (setting_granted k.windows m lent word address value f).does;
           inside = λ s lent. (setting_granted k.windows m lent word address value f).lies;
-          sound = setting_sound (Granted place);
+          sound = setting_sound (Ok place);
         }
 
   -- the data of a load
@@ -354,15 +354,15 @@ module _ (k : Core) (m : List ℕ) (opcode : ℕ) where
   row_idle command.Ping words e = done_idle command.Ping words tt
   row_idle command.SequentialRead words e = done_idle command.SequentialRead words tt
 
-  opcode_idle : (found : Found) → looked_up opcode Sent k.dialect ≡ found → Idle k m (at_opcode k m opcode found)
-  opcode_idle Unknown e = record { wrote = refl; memory = refl; sound = λ s. s }
-  opcode_idle Retired e = record { wrote = refl; memory = refl; sound = λ s. s }
-  opcode_idle (Known c words) e = opened_idle c (begins c words) (row_idle c words (row-is Sent k.dialect opcode c words e))
+  opcode_idle : {found : Result Known Refusal} → Looked found → looked_up opcode Sent k.dialect ≡ found → Idle k m (at_opcode k m opcode found)
+  opcode_idle of_none e = record { wrote = refl; memory = refl; sound = λ s. s }
+  opcode_idle of_retired e = record { wrote = refl; memory = refl; sound = λ s. s }
+  opcode_idle (of_row f) e = opened_idle f.command (begins f.command f.words) (row_idle f.command f.words (row-is Sent k.dialect opcode f.command f.words e))
 
 -- a word, by its phase
 phase_shown : (p : Phase) (k : Core) (m : List ℕ) (word : ℕ) → k.stage.phase ≡ p
     → Shown k m (in_phase p k m word) (pick (eqb (code_of (in_phase p k m word).answer.refusal) 0) (accepted_word p k word) [])
-phase_shown phase.Opcode k m word e = idle_choice k m _ _ (opcode_idle k m word (looked_up word Sent k.dialect) refl)
+phase_shown phase.Opcode k m word e = idle_choice k m _ _ (opcode_idle k m word (looked word Sent k.dialect) refl)
 phase_shown (phase.Argument c left kept) k m word e = argument_shown k m c (left - 1) kept word
 phase_shown (phase.Data end left) k m word e =
     subst (Shown k m (in_phase (phase.Data end left) k m word)) (sym (chosen (eqb 0 0) _ _ refl)) (data_shown k m end left word e)

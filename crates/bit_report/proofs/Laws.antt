@@ -6,24 +6,26 @@ use mathlib.Core.List.{List, [], ◌∷◌}
 use mathlib.Core.Path.{◌≡◌, refl, sym, ap, ap₂, ◌∙◌}
 use native.Mathlib.Omega.{arith}
 use borrow.Author.Tests.{ltb-true, ltb-false, leb-true, eqb-true, eqb-false, not-true, not-false, lt-ltb, le-leb, eq-eqb}
+use Rattle.std.specs.Prelude.{Option, Some}
+use Rattle.std.specs.Option.{option_map_or}
 use lib.Dec.{leb, ltb, eqb}
 use Rattle.words.specs.rules.Bits.{within}
-use Rattle.words.specs.rules.Choice.{pick}
 use Rattle.words.proofs.Choice.{both, by_test, of_choice}
 use Rattle.commands.specs.declared.Wrote.{Wrote}
 use Rattle.field_lines.specs.rules.Clashes.{has_bit}
 use Rattle.field_lines.specs.rules.Text.{same}
 use Rattle.field_lines.specs.declared.FieldLine.{FieldLine}
 use Rattle.field_lines.proofs.SameBytes.{same_refl, same_equal}
-use Rattle.field_register.specs.rules.Questions.{the_bit, is_about, answers, found_in}
-use Rattle.field_register.specs.declared.FoundLine.{FoundLine}
+use Rattle.field_register.specs.rules.Questions.{is_about, answers, found_in}
 use Rattle.field_register.specs.declared.Subject.{Subject}
+use Rattle.field_register.specs.declared.Subject.TheVariants.{Bit}
+use Rattle.field_register.proofs.ByLine.{by_answer}
 use Rattle.field_register.specs.rules.Reading.{lines_in}
 use Rattle.bit_report.specs.rules.Deeds.{spread}
 use Rattle.bit_report.specs.rules.Fields.{has_field, has_other, reaches_out, has_cut, first_field, two_fields, cut_field}
 use Rattle.bit_report.specs.claims.Laws.{SameTold, PartLaws, FirstLaws, DeedLaws, Two, Cut, WarningLaws}
 use Rattle.bit_report.specs.rules.Lowest.{lowest_in}
-use Rattle.bit_report.specs.rules.Parts.{field_at, same_field, told_of, same_writer, alike, part_end, by_one, is_first}
+use Rattle.bit_report.specs.rules.Parts.{field_at, name_in, same_field, told_of, same_writer, alike, part_end, by_one, is_first}
 use Rattle.bit_report.specs.declared.Kind.{Kind}
 use Rattle.bit_report.specs.declared.Names.{Names}
 use Rattle.bit_report.specs.declared.Told.{Told}
@@ -41,7 +43,7 @@ same_told a b e =
 
 alike_itself : (a : Told) → alike a a ≡ true
 unfolding alike same_writer same_field
-alike_itself a = ap₂ ◌&&◌ (ap₂ ◌&&◌ (eq-eqb a.number a.number refl) (eq-eqb a.at a.at refl)) (same_refl a.field.line.name)
+alike_itself a = ap₂ ◌&&◌ (ap₂ ◌&&◌ (eq-eqb a.number a.number refl) (eq-eqb a.at a.at refl)) (same_refl (name_in a.field))
 
 pub part_laws : (numbers offsets : List ℕ) (names : Names) (w : Word) (k : ℕ) → PartLaws numbers offsets names w k
 unfolding part_end
@@ -100,28 +102,29 @@ deed_laws kind word w =
 -- ---- Fields
 
 -- a line that is found answers
-found_answers : (s : Subject) (release : ℕ) (ls : List FieldLine) → (found_in s release ls).found ≡ true → answers s release (found_in s release ls).line ≡ true
+found_answers : (s : Subject) (release : ℕ) (ls : List FieldLine) (l : FieldLine) → found_in s release ls ≡ Some l → answers s release l ≡ true
 unfolding found_in
-found_answers s release [] = λ e. absurd (true≢false (sym e))
-found_answers s release (l ∷ ls) =
-    of_choice (λ (f : FoundLine). (f.found ≡ true → answers s release f.line ≡ true)) (answers s release l) (λ e h. e)
-    (λ e. found_answers s release ls)
+found_answers s release [] l = λ e. cc
+found_answers s release (m ∷ ls) l =
+    of_choice (λ (f : Option FieldLine). f ≡ Some l → answers s release l ≡ true) (answers s release m)
+    (λ held e. let is : m ≡ l = cc in rw (← is) held)
+    (λ failed e. found_answers s release ls l e)
 
-names_equal : (a b : FoundLine) → same_field a b ≡ true → a.line.name ≡ b.line.name
+names_equal : (a b : Option FieldLine) → same_field a b ≡ true → name_in a ≡ name_in b
 unfolding same_field
 names_equal a b e = same_equal _ _ e
 
 module _ (names : Names) (word : ℕ) where
   -- so the field of a bit has the bit
-  own_bit : (k : ℕ) → has_field names word k ≡ true → has_bit (field_at names word k).line word k ≡ true
-  unfolding answers is_about pick
-  own_bit k e = (both _ _ (found_answers (the_bit word k) names.release (lines_in names.register) e)).0
+  own_bit : (k : ℕ) (l : FieldLine) → field_at names word k ≡ Some l → has_bit l word k ≡ true
+  unfolding answers is_about
+  own_bit k l e = (both _ _ (found_answers (Bit word k) names.release (lines_in names.register) l e)).0
 
   module _ (from to : ℕ) where
     two_there : two_fields names word from to ≡ true → Two names word from to
     unfolding two_fields has_other same_field
     two_there e =
-        let field : FoundLine = first_field names word from to in
+        let field : Option FieldLine = first_field names word from to in
         let p : ℕ = lowest_in (has_other names word field) from to in
         let q : ℕ = lowest_in (has_field names word) from to in
         let p-below : p < to = ltb-true _ _ e in
@@ -140,7 +143,7 @@ module _ (names : Names) (word : ℕ) where
           differ =
               λ same_names.
               true≢false
-              (sym (ap (λ (name : List ℕ). same (field_at names word p).line.name name) same_names ∙ same_refl (field_at names word p).line.name)
+              (sym (ap (λ (name : List ℕ). same (name_in (field_at names word p)) name) same_names ∙ same_refl (name_in (field_at names word p)))
               ∙ not-true _ parts.1);
         }
 
@@ -161,15 +164,27 @@ module _ (names : Names) (word : ℕ) where
         (other_found t.other t.other_written.0 t.other_written.1 t.other_named))
         (other_found t.one t.one_written.0 t.one_written.1 t.one_named)
 
+    -- a field that is cut, and how
+    record CutAt (k : ℕ) : Type 0 where
+      field : FieldLine
+      named : field_at names word k ≡ Some field
+      out : reaches_out field from to ≡ true
+
+    cut_at : (k : ℕ) → has_cut names word from to k ≡ true → CutAt k
+    unfolding has_cut
+    cut_at k e =
+        by_answer (field_at names word k) (λ l named. record { field = l; named = named; out = rw named at e })
+        (λ none. absurd (true≢false (sym (rw none at e))))
+
     cut_there : cut_field names word from to ≡ true → Cut names word from to
-    unfolding cut_field has_cut reaches_out has_bit
+    unfolding cut_field reaches_out has_bit
     cut_there e =
         let p : ℕ = lowest_in (has_cut names word from to) from to in
-        let l : FieldLine = (field_at names word p).line in
         let p-below : p < to = ltb-true _ _ e in
         let p-from : from ≤ p = lowest_from (has_cut names word from to) from (to - from) in
-        let parts = both _ _ (found_holds (has_cut names word from to) from to p-below) in
-        let own : ((eqb l.word word && leb l.start p) ≡ true) × (leb p l.stop ≡ true) = both _ _ (own_bit p parts.0) in
+        let cut = cut_at p (found_holds (has_cut names word from to) from to p-below) in
+        let l : FieldLine = cut.field in
+        let own : ((eqb l.word word && leb l.start p) ≡ true) × (leb p l.stop ≡ true) = both _ _ (own_bit p l cut.named) in
         let begun : (eqb l.word word ≡ true) × (leb l.start p ≡ true) = both _ _ own.0 in
         let above : l.start ≤ p = leb-true l.start p begun.1 in
         let below : p ≤ l.stop = leb-true p l.stop own.1 in
@@ -180,17 +195,19 @@ module _ (names : Names) (word : ℕ) where
           inside = p;
           outside = l.start;
           written = (p-from, p-below);
-          named = parts.0;
+          field = l;
+          named = cut.named;
           same-field = ap₂ ◌&&◌ (ap₂ ◌&&◌ begun.0 (le-leb l.start l.start (omega arith))) (le-leb l.start l.stop (omega arith));
           not_written = λ h. omega (arith, h.0);
         })
         (λ f.
-        let out : to ≤ l.stop = leb-true to l.stop (sym (ap (λ (t : Bool). t || leb to l.stop) f) ∙ parts.1) in
+        let out : to ≤ l.stop = leb-true to l.stop (sym (ap (λ (t : Bool). t || leb to l.stop) f) ∙ cut.out) in
         record {
           inside = p;
           outside = l.stop;
           written = (p-from, p-below);
-          named = parts.0;
+          field = l;
+          named = cut.named;
           same-field = ap₂ ◌&&◌ (ap₂ ◌&&◌ begun.0 (le-leb l.start l.stop (omega arith))) (le-leb l.stop l.stop (omega arith));
           not_written = λ h. omega (arith, h.1);
         })
@@ -214,8 +231,9 @@ module _ (names : Names) (word : ℕ) where
     cut_told : Cut names word from to → cut_field names word from to ≡ true
     unfolding cut_field has_cut
     cut_told t =
-        let out = cut_out (field_at names word t.inside).line t.outside t.same-field t.not_written in
-        let found = holds_found (has_cut names word from to) from to t.inside t.written.0 t.written.1 (ap₂ ◌&&◌ t.named out) in
+        let out = cut_out t.field t.outside t.same-field t.not_written in
+        let cut = ap (λ (o : Option FieldLine). option_map_or (λ l. reaches_out l from to) o false) t.named ∙ out in
+        let found = holds_found (has_cut names word from to) from to t.inside t.written.0 t.written.1 cut in
         lt-ltb (lowest_in (has_cut names word from to) from to) to (omega (arith, t.written.1))
 
     pub warning_laws : WarningLaws names word from to

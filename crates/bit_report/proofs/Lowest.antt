@@ -1,10 +1,12 @@
 -- The lowest bit of those that a loop has left: the next one, one behind it, or none; and what holds of it. By the definition's cases, and by induction over
 -- the bits.
-use Prim.Native.Nat.{ℕ, zero, suc, ◌+◌, ◌-◌, ◌≤◌, ◌<◌}
+use Rattle.std.specs.Option.{MatchOption, unwrap_or}
+use Rattle.std.proofs.Common.{Option, None, Some}
+use Prim.Native.Nat.{max, ℕ, zero, suc, ◌+◌, ◌-◌, ◌≤◌, ◌<◌}
 use mathlib.Core.Bool.{Bool, true, false, true≢false}
 use mathlib.Core.Path.{◌≡◌, sym, ap, ◌∙◌}
 use native.Mathlib.Omega.{arith}
-use borrow.Author.Tests.{eqb-true, eqb-false, leb-true, leb-false, lt-ltb, le-ltb}
+use borrow.Author.Tests.{eqb-true, eqb-false, leb-true, leb-false, ltb-true, ltb-false, lt-ltb, le-ltb}
 use lib.Dec.{eqb, leb, ltb}
 use Rattle.words.proofs.Choice.{chosen, passed, by_test, of_choice}
 use Rattle.bit_report.specs.rules.Lowest.{lowest, lowest_in}
@@ -80,3 +82,25 @@ module _ (test : ℕ → Bool) (from to i : ℕ) (left : lowest_in test i to ≡
   seen_none h =
       let there : i ≡ lowest_in test from to = lowest_none test i to h ∙ left in
       sym (le-ltb (lowest_in test from to) to (omega arith))
+
+-- the first of them for which the test holds, or the bit behind them all
+pub lowest_of_first : (test : ℕ → Bool) (from to : ℕ) (r : Option ℕ)
+    → MatchOption r ((k : ℕ) → from ≤ k → k < to → test k ≡ false)
+    (λ i. (from ≤ i) × (i < to) × (test i ≡ true) × ((k : ℕ) → from ≤ k → k < i → test k ≡ false))
+    → unwrap_or r (max from to) ≡ lowest_in test from to
+lowest_of_first test from to None none =
+    let low = lowest_from test from (to - from) in
+    let high = lowest_to test from (to - from) in
+    by_test (ltb (lowest_in test from to) to)
+    (λ t.
+    let below : lowest_in test from to < to = ltb-true _ _ t in
+    absurd (true≢false (sym (found_holds test from to below) ∙ none (lowest_in test from to) low below)))
+    (λ f. let past : to ≤ lowest_in test from to = ltb-false _ _ f in omega arith)
+lowest_of_first test from to (Some i) first =
+    let low = lowest_from test from (to - from) in
+    let high = holds_found test from to i first.0 first.1 first.2 in
+    by_test (ltb (lowest_in test from to) i)
+    (λ t.
+    let below : lowest_in test from to < i = ltb-true _ _ t in
+    absurd (true≢false (sym (found_holds test from to (omega arith)) ∙ first.3 (lowest_in test from to) low below)))
+    (λ f. let past : i ≤ lowest_in test from to = ltb-false _ _ f in omega arith)

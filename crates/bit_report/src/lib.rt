@@ -4,13 +4,13 @@
 ghost use Rattle.std.specs.Prelude.{◌≡◌, ◌+◌, ◌-◌, ◌*◌, ◌/◌, ◌%◌, ◌^◌, ◌≤◌, ◌<◌, leb, ltb};
 ghost use Rattle.bit_stamps.specs.rules.Stamps.{word_bits_below, entry_at};
 ghost use Rattle.bit_report.specs.rules.Lowest.{lowest_in};
-ghost use Rattle.bit_report.specs.rules.Parts.{field_at, same_field, told_of, same_writer, alike, part_end, value_of, part_from, by_one, is_first};
+ghost use Rattle.bit_report.specs.rules.Parts.{field_at, name_in, same_field, told_of, same_writer, alike, part_end, value_of, part_from, by_one, is_first};
 ghost use Rattle.bit_report.specs.rules.Deeds.{spread, no_deed, bytes_deed, setting_deed, command_deed, deed_at};
 ghost use Rattle.bit_report.specs.rules.Fields.{has_field, has_other, reaches_out, has_cut, two_fields, cut_field};
 
-use commands::{Judged, Wrote};
+use commands::Wrote;
 use field_lines::FieldLine;
-use field_register::{FoundLine, Register};
+use field_register::Register;
 use opcodes::{Command, Dialect, Mode};
 
 // A register and the release that bits are named by.
@@ -32,7 +32,7 @@ pub struct Word {
 pub struct Told {
     pub number: u32,
     pub at: u32,
-    pub field: FoundLine,
+    pub field: Option<FieldLine>,
 }
 
 // Bits of a word, from the first to the last, of which the same is told, and their value.
@@ -69,7 +69,7 @@ pub fn entry(entries: &[u8], index: u32, bit: u32) -> u32
 }
 
 // The field of a bit of a word.
-pub fn field_at(names: Names, word: u32, bit: u32) -> FoundLine
+pub fn field_at(names: Names, word: u32, bit: u32) -> Option<FieldLine>
     ensures { result ≡ field_at names word bit }
 {
     let register = names.register;
@@ -86,36 +86,38 @@ fn told_of(numbers: &[u8], offsets: &[u8], names: Names, word: Word, bit: u32) -
     Told { number, at, field }
 }
 
+// The name of a field; zeros for none.
+fn name_in(field: Option<FieldLine>) -> [u8; 16]
+    ensures { result ≡ name_in field }
+{
+    match field {
+        Some(line) => line.name,
+        None => [0u8; 16],
+    }
+}
+
 // Are two fields of one name?
-fn same_name(a: FoundLine, b: FoundLine) -> bool
+#[tactic(auto, unfolding(crate::specs::rules::Parts::same_field, field_lines::specs::rules::Text::same))]
+fn same_name(a: Option<FieldLine>, b: Option<FieldLine>) -> bool
     ensures { result ≡ same_field a b }
 {
-    let line = a.line;
-    let other = b.line;
-    let name = other.name;
-    field_lines::has_name(line, name)
+    name_in(a) == name_in(b)
 }
 
 // Were two bits written last by one command?
+#[tactic(auto, unfolding(crate::specs::rules::Parts::same_writer))]
 fn same_writer(a: Told, b: Told) -> bool
     ensures { result ≡ same_writer a b }
 {
-    if a.number != b.number {
-        return false;
-    }
-    a.at == b.at
+    a.number == b.number && a.at == b.at
 }
 
 // Is the same told of two bits?
+#[tactic(auto, unfolding(crate::specs::rules::Parts::alike))]
 fn alike_told(a: Told, b: Told) -> bool
     ensures { result ≡ alike a b }
 {
-    if !same_writer(a, b) {
-        return false;
-    }
-    let mine = a.field;
-    let yours = b.field;
-    same_name(mine, yours)
+    same_writer(a, b) && same_name(a.field, b.field)
 }
 
 // The first bit above one of which another thing is told; 32 where there is none.
@@ -124,14 +126,12 @@ fn part_end(numbers: &[u8], offsets: &[u8], names: Names, word: Word, bit: u32) 
     ensures { result ≡ part_end numbers.now offsets.now names word bit }
 {
     let told = told_of(numbers, offsets, names, word, bit);
-    let mut i = bit + 1;
-    while i < 32 {
+    for i in bit + 1..32 {
         if !alike_told(told, told_of(numbers, offsets, names, word, i)) {
             return i;
         }
-        i += 1;
     }
-    i
+    32
 }
 
 // So many bits of a value, from one on.
@@ -166,25 +166,22 @@ pub fn part_from(
 }
 
 // Did one command write two bits of a chosen word last?
+#[tactic(auto, unfolding(crate::specs::rules::Parts::by_one))]
 fn by_one(numbers: &[u8], offsets: &[u8], index: u32, a: u32, b: u32) -> bool
     ensures { result ≡ by_one numbers.now offsets.now index a b }
 {
-    if entry(numbers, index, a) != entry(numbers, index, b) {
-        return false;
-    }
-    entry(offsets, index, a) == entry(offsets, index, b)
+    entry(numbers, index, a) == entry(numbers, index, b)
+        && entry(offsets, index, a) == entry(offsets, index, b)
 }
 
 // Is a bit the lowest of those that its command wrote last in the word?
 pub fn is_first(numbers: &[u8], offsets: &[u8], index: u32, bit: u32) -> bool
     ensures { result ≡ is_first numbers.now offsets.now index bit }
 {
-    let mut i: u32 = 0;
-    while i < bit {
+    for i in 0..bit {
         if by_one(numbers, offsets, index, bit, i) {
             return false;
         }
-        i += 1;
     }
     true
 }
@@ -244,7 +241,7 @@ fn bytes_deed(kind: Kind, image: &[u8], at: u32, word: u32) -> Deed
     spread_on(
         kind,
         word,
-        commands::wrote_bytes(Judged::Granted(address as usize), size, 0),
+        commands::wrote_bytes(Ok(address as usize), size, 0),
     )
 }
 
@@ -257,7 +254,7 @@ fn setting_deed(image: &[u8], at: u32, word: u32) -> Deed
     spread_on(
         Kind::Setting,
         word,
-        commands::wrote_setting(Judged::Granted(address as usize), shape, 0),
+        commands::wrote_setting(Ok(address as usize), shape, 0),
     )
 }
 
@@ -284,74 +281,63 @@ pub fn deed_at(image: &[u8], at: u32, word: u32) -> Deed
     ensures { result ≡ deed_at image.now at word }
 {
     let opcode = words::word_at(image, at as usize);
-    let found = opcodes::look_up(opcode, Mode::Flash, Dialect::Am17xx);
-    match found {
-        opcodes::Found::Known(command, _) => command_deed(command, image, at, word),
-        opcodes::Found::Retired => no_deed(),
-        opcodes::Found::Unknown => no_deed(),
+    match opcodes::look_up(opcode, Mode::Flash, Dialect::Am17xx) {
+        Ok(known) => command_deed(known.command, image, at, word),
+        Err(_) => no_deed(),
     }
+}
+
+// Is a bit in a field?
+fn has_field(names: Names, word: u32, bit: u32) -> bool
+    ensures { result ≡ has_field names word bit }
+{
+    field_at(names, word, bit).is_some()
 }
 
 // The lowest bit from one on and below another that is in a field; the other where there is none.
 pub fn first_field(names: Names, word: u32, from: u32, to: u32) -> u32
     ensures { result ≡ lowest_in (has_field names word) from to }
 {
-    let mut i = from;
-    while i < to {
-        let field = field_at(names, word, i);
-        if field.found {
-            return i;
-        }
-        i += 1;
-    }
-    i
+    (from..to)
+        .find(|bit| has_field(names, word, *bit))
+        .unwrap_or(from.max(to))
 }
 
 // Is a bit in a field of another name?
-fn has_other(names: Names, word: u32, field: FoundLine, bit: u32) -> bool
+#[tactic(auto, unfolding(crate::specs::rules::Fields::has_other))]
+fn has_other(names: Names, word: u32, field: Option<FieldLine>, bit: u32) -> bool
     ensures { result ≡ has_other names word field bit }
 {
     let own = field_at(names, word, bit);
-    if !own.found {
-        return false;
-    }
-    !same_name(own, field)
+    own.is_some() && !same_name(own, field)
 }
 
 // The lowest bit from one on and below another that is in a field of another name; the other bit where there is none.
-pub fn other_field(names: Names, word: u32, field: FoundLine, from: u32, to: u32) -> u32
+pub fn other_field(names: Names, word: u32, field: Option<FieldLine>, from: u32, to: u32) -> u32
     ensures { result ≡ lowest_in (has_other names word field) from to }
 {
-    let mut i = from;
-    while i < to {
-        if has_other(names, word, field, i) {
-            return i;
-        }
-        i += 1;
-    }
-    i
+    (from..to)
+        .find(|bit| has_other(names, word, field, *bit))
+        .unwrap_or(from.max(to))
 }
 
 // Has a field a bit below one, or from another on?
+#[tactic(auto, unfolding(crate::specs::rules::Fields::reaches_out))]
 pub fn reaches_out(line: FieldLine, from: u32, to: u32) -> bool
     ensures { result ≡ reaches_out line from to }
 {
-    if line.start < from {
-        return true;
-    }
-    to <= line.stop
+    line.start < from || to <= line.stop
 }
 
 // Is a bit in a field that has bits outside of some?
+#[tactic(auto, unfolding(crate::specs::rules::Fields::has_cut))]
 fn has_cut(names: Names, word: u32, from: u32, to: u32, bit: u32) -> bool
     ensures { result ≡ has_cut names word from to bit }
 {
-    let field = field_at(names, word, bit);
-    if !field.found {
-        return false;
+    match field_at(names, word, bit) {
+        Some(line) => reaches_out(line, from, to),
+        None => false,
     }
-    let line = field.line;
-    reaches_out(line, from, to)
 }
 
 // Do the bits of a command belong to two fields or more?
@@ -369,12 +355,10 @@ pub fn cut_field(names: Names, word: u32, deed: Deed) -> bool
 {
     let from = deed.from;
     let to = deed.to;
-    let mut i = from;
-    while i < to {
+    for i in from..to {
         if has_cut(names, word, from, to, i) {
             return true;
         }
-        i += 1;
     }
     false
 }

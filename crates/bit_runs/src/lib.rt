@@ -3,63 +3,28 @@
 #![tactic(auto)]
 
 ghost use Rattle.std.specs.Prelude.{◌≡◌};
-ghost use Rattle.bit_runs.specs.rules.Runs.{not_chosen, ended, left_by};
+ghost use Rattle.bit_runs.specs.rules.Runs.{left_by};
 
 use bit_choice::Chosen;
-use flash_session::{Called, Session};
-use opcodes::Dialect;
+use flash_session::Session;
+use opcodes::{Dialect, Refusal};
 
-// How the run ended, and the chosen words. Where they are refused nothing is run.
+// How the run ended, the offset of its last command, and the chosen words.
 #[derive(Clone, Copy)]
 pub struct Traced {
-    pub chosen: bool,
-    pub entered: bool,
-    pub code: u8,
+    pub refusal: Option<Refusal>,
     pub at: u32,
-    pub count: usize,
-    pub places: [usize; 64],
+    pub chosen: Chosen,
 }
 
-// Words that are refused: nothing is run.
-fn not_chosen() -> Traced
-    ensures { result ≡ not_chosen }
-{
-    let places = [0usize; 64];
-    Traced {
-        chosen: false,
-        entered: false,
-        code: 24,
-        at: 0,
-        count: 0,
-        places,
-    }
-}
-
-// A run that ended with this answer, or a refused opening with it.
-fn ended_by(called: Called, chosen: Chosen) -> Traced
-    ensures { result ≡ ended called chosen }
-{
-    let refusal = called.refusal;
-    let code = refusal.code();
-    let places = chosen.places;
-    Traced {
-        chosen: true,
-        entered: code == 0,
-        code,
-        at: called.at,
-        count: chosen.count,
-        places,
-    }
-}
-
-// Opens and runs an image, with the words of a lent list of addresses watched.
+// Opens and runs an image, with the words of a lent list of addresses watched; where they are refused nothing is run.
 pub fn run(
     list: &[u8],
     image: &[u8],
     memory: &mut [u8],
     numbers: &mut [u8],
     offsets: &mut [u8],
-) -> Traced
+) -> Result<Traced, Refusal>
     ensures value { result ≡ (left_by list.now image.now memory.old numbers.old offsets.old).traced }
     ensures memory_after { memory.new ≡ (left_by list.now image.now memory.old numbers.old offsets.old).memory }
     ensures numbers_after { numbers.new ≡ (left_by list.now image.now memory.old numbers.old offsets.old).numbers }
@@ -67,9 +32,8 @@ pub fn run(
 {
     let windows = checking::windows();
     let choice = bit_choice::choose(windows, list);
-    let refusal = choice.refusal;
-    if refusal.code() != 0 {
-        return not_chosen();
+    if choice.refusal.is_some() {
+        return Err(Refusal::Chosen);
     }
     let chosen = choice.chosen;
     let places = chosen.places;
@@ -85,5 +49,9 @@ pub fn run(
         offsets,
         &mut room,
     );
-    ended_by(ran.called, chosen)
+    Ok(Traced {
+        refusal: ran.called.refusal,
+        at: ran.called.at,
+        chosen,
+    })
 }

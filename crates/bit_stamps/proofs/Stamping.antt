@@ -1,6 +1,6 @@
 -- What a write does to each byte of the entries, and that to stamp word after word comes to the same. Each byte is taken by itself: it tells of
 -- a bit that was written, or it is kept.
-use Prim.Native.Nat.{ℕ, zero, suc, ◌+◌, ◌-◌, ◌*◌, ◌/◌, ◌%◌, ◌≤◌, ◌<◌}
+use Prim.Native.Nat.{ℕ, zero, suc, ◌+◌, ◌-◌, ◌*◌, ◌/◌, ◌%◌, ◌≤◌, ◌<◌, min}
 use mathlib.Core.Bool.{Bool, false, ◌&&◌, and-false}
 use mathlib.Core.List.{List, [], ◌∷◌}
 use mathlib.Core.Path.{◌≡◌, refl, sym, ap, ap₂, ◌∙◌}
@@ -9,7 +9,7 @@ use native.Mathlib.Nat.{add-zero, zero-add, suc-ne-zero}
 use native.Mathlib.Omega.{arith}
 use lib.Dec.{ltb}
 use lib.ListN.{length, get_or, set, take, length-take}
-use lib.Seq.{get_or-take, ext_get_or}
+use lib.Seq.{get_or-take, ext_get_or, take_all}
 use borrow.Author.Tests.{lt-ltb, le-ltb}
 use Rattle.words.specs.rules.Bits.{within}
 use Rattle.words.specs.rules.Bytes.{byte, put}
@@ -198,3 +198,16 @@ past_entries entries places w i j h l =
     byte_stamped (take i places) w entries n lies
     ∙ ap (λ (t : Bool). pick t (byte w.number (n % 2)) (get_or entries n 0)) (same_told places w n i j (omega arith) (omega arith))
     ∙ sym (byte_stamped (take j places) w entries n lies))
+
+-- as many words as there are, of those that are chosen, and as have entries, are enough
+pub enough : (entries places : List ℕ) (w : Wrote) (most count : ℕ) → most ≡ min (min count (length places)) (length entries / 64 + 1)
+    → stamped entries (take most places) w ≡ stamped entries (take count places) w
+enough entries places w most count least = go (dec_lt (length entries / 64) most) (dec_lt most count)
+  where
+    go : Dec (length entries / 64 < most) → Dec (most < count) → stamped entries (take most places) w ≡ stamped entries (take count places) w
+    go (yes past) _ = past_entries entries places w most count past (omega arith)
+    go (no inside) (yes fewer) =
+        ap (λ (l : List ℕ). stamped entries l w) (take_all most places (omega arith) ∙ sym (take_all count places (omega arith)))
+    go (no inside) (no all) =
+        let same : most ≡ count = omega arith in
+        ap (λ (n : ℕ). stamped entries (take n places) w) same

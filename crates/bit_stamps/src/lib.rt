@@ -15,32 +15,20 @@ fn stamp_bits(entries: &mut [u8], at: usize, count: usize, number: u32)
 {
     let low = words::byte_of(number, 0);
     let high = words::byte_of(number, 1);
-    let mut i: usize = 0;
-    while i < count {
+    for i in 0..count {
         words::put_byte(entries, at + 2 * i, low);
         words::put_byte(entries, at + 2 * i + 1, high);
-        i = i + 1;
     }
-}
-
-// A number of bits, at most those of a word.
-fn word_bits(bits: usize) -> usize
-    ensures { result ≡ min 32 bits }
-{
-    if bits < 32 { bits } else { 32 }
 }
 
 // How many bits of a word lie below one that is so many bytes and bits above its first.
 fn bits_up_to(bytes: usize, bits: usize) -> usize
     ensures { result ≡ min 32 (8 * bytes + bits) }
 {
-    if 4 <= bytes {
+    if 4 <= bytes || 32 <= bits {
         return 32;
     }
-    if 32 <= bits {
-        return 32;
-    }
-    word_bits(8 * bytes + bits)
+    (8 * bytes + bits).min(32)
 }
 
 // How many bits of the word at a place lie below the one that is so many bits above the first of the byte at another.
@@ -54,7 +42,7 @@ fn bits_below(word: usize, place: usize, bits: usize) -> usize
     if bits / 8 < under {
         return 0;
     }
-    word_bits(bits - 8 * under)
+    (bits - 8 * under).min(32)
 }
 
 // How many bits of the word at a place lie below the end of those written; the whole bytes of their count are taken off the word's place.
@@ -90,17 +78,9 @@ fn stamp_word(entries: &mut [u8], index: usize, word: usize, wrote: Wrote)
 fn stamp_words(entries: &mut [u8], count: usize, places: &[usize], wrote: Wrote)
     ensures { entries.new ≡ stamped entries.old (take count places.now) wrote }
 {
-    let mut i: usize = 0;
-    while i < count {
-        if places.len() <= i {
-            return;
-        }
-        if entries.len() / 64 < i {
-            return;
-        }
-        let word = places[i];
-        stamp_word(entries, i, word, wrote);
-        i = i + 1;
+    let most = count.min(places.len()).min(entries.len() / 64 + 1);
+    for (i, word) in places[..most].iter().enumerate() {
+        stamp_word(entries, i, *word, wrote);
     }
 }
 

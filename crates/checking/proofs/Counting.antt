@@ -9,8 +9,8 @@ use lib.ListN.{length}
 use borrow.Author.Tests.{not-false}
 use Rattle.words.proofs.Choice.{chosen, passed, by_test, of_choice}
 use Rattle.opcodes.specs.rules.Answers.{code_of}
-use Rattle.opcodes.specs.declared.Refusal.{Refusal}
-use Rattle.opcodes.specs.declared.Refusal.TheVariants.{Map, Image}
+use Rattle.opcodes.specs.rules.Refusals.{Verdict}
+use Rattle.opcodes.specs.rules.Refusals.{Map, Image}
 use Rattle.opcodes.specs.declared.Dialect.TheVariants.{Am17xx}
 use Rattle.flash_session.specs.rules.Opening.{good_length, refused_by, opened_by}
 use Rattle.flash_session.specs.rules.Sessions.{CallOutcome}
@@ -31,7 +31,7 @@ answer_within image limit =
     (λ e. ran_within Am17xx 1 windows image limit _) (λ e. opened_within Am17xx 1 windows image limit)
 
 -- what is refused at the opening before its first word is looked at has fetched none
-refused_none : (image : List ℕ) (q : Refusal) → eqb (code_of q) 0 ≡ false → (last_answer image (refused_by q 0)).session.fetched ≡ 0
+refused_none : (image : List ℕ) (q : Verdict) → eqb (code_of q) 0 ≡ false → (last_answer image (refused_by q 0)).session.fetched ≡ 0
 unfolding last_answer ran_from
 refused_none image q e = ap (λ (o : CallOutcome). o.answer.session.fetched) (passed _ _ _ e)
 

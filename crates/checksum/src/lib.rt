@@ -25,10 +25,8 @@ fn feed_low(checksum: u32, value: u32, count: u32) -> u32
     ensures { result ≡ fed checksum value count }
 {
     let mut reached = checksum;
-    let mut left = count;
-    while 0 < left {
-        left -= 1;
-        reached = feed_bit(reached, (value >> left) % 2);
+    for place in (0..count).rev() {
+        reached = feed_bit(reached, (value >> place) % 2);
     }
     reached
 }

@@ -30,6 +30,7 @@ use Rattle.host_answers.proofs.answers.enter.Reads as host-enter
 use Rattle.host_answers.proofs.answers.at.Reads as host-at
 use Rattle.host_answers.proofs.answers.go_to.Reads as host-go-to
 use Rattle.host_answers.proofs.answers.again.Reads as host-again
+use Rattle.host_answers.proofs.answers.answered_by.Reads as host-answered-by
 use Rattle.host_commands.proofs.role_of.Reads as role-of
 use Rattle.host_commands.proofs.await_acknowledgement.Reads as await-acknowledgement
 use Rattle.host.proofs.turn.Reads as host-turn
@@ -139,6 +140,9 @@ host_go_to_unique κs a r s e f = same
 
 pub host_again_unique : OneResult host-again.Post
 host_again_unique κs a r s e f = same
+
+pub host_answered_by_unique : OneResult host-answered-by.Post
+host_answered_by_unique κs a r s e f = same
 
 -- its commands, and a turn
 pub role_of_unique : OneResult role-of.Post

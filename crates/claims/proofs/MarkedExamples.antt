@@ -1,5 +1,6 @@
 -- The definitions compute to the values of the examples. Three facts want a law: memory of which only the first bytes are named has a first
 -- word, 32 bits hold every word, and a word all of whose bits are set becomes the data.
+use Rattle.std.specs.Prelude.{Ok}
 use Prim.Native.Nat.{ℕ, zero, suc, ◌+◌, ◌^◌, ◌<◌}
 use mathlib.Core.Bool.{true}
 use mathlib.Core.Path.{◌≡◌, refl, ap, ◌∙◌}
@@ -17,10 +18,8 @@ use Rattle.checksum.specs.rules.Checksum.{shifted, fed_bit, fed, fed_words}
 use Rattle.windows.specs.rules.Window.{has_right, inside, grants_range, place_from, place_of}
 use Rattle.commands.specs.rules.Commands.{multiple, range_judged, load_judged, unit_of, units_judged, fill_judged, fill_memory, memory_if, field_shape}
 use Rattle.commands.specs.rules.Commands.{shape_of}
-use Rattle.commands.specs.rules.Commands.{too_wide, setting_judged, shape_set, setting_memory, target, sought_from}
+use Rattle.commands.specs.rules.Commands.{too_wide, setting_judged, shape_set, setting_memory, target, sought_from, Judged}
 use Rattle.stores.specs.rules.Stores.{words_fed, load_fed, filled}
-use Rattle.commands.specs.declared.Judged.{Judged}
-use Rattle.commands.specs.declared.Judged.TheVariants.{Granted}
 use Rattle.claims.specs.claims.MarkedExamples.{AllHold, windows, word_then, marked}
 
 module _ (word value : ℕ) (rest : List ℕ) where
@@ -44,7 +43,7 @@ module _ (word value : ℕ) (rest : List ℕ) where
   all_set old = rw (byte_set old 0 (omega arith), byte_set old 1 (omega arith), byte_set old 2 (omega arith), byte_set old 3 (omega arith))
 
 -- a field of all 32 bits is accepted with every word
-word_fits : (value : ℕ) → value < 2 ^ 32 → setting_judged windows 0x001F0003 0x80000000 value ≡ Granted 0
+word_fits : (value : ℕ) → value < 2 ^ 32 → setting_judged windows 0x001F0003 0x80000000 value ≡ Ok 0
 unfolding pick byte has_right inside grants_range place_from place_of multiple range_judged unit_of units_judged field_shape shape_of too_wide
 word_fits value fit = passed (leb (2 ^ 32) value) _ _ (lt-leb _ _ fit)
 

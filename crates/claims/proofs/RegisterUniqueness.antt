@@ -2,16 +2,15 @@
 use Rattle.field_lines.proofs.name_of.Reads as name_of
 use Rattle.field_lines.proofs.no_line.Reads as no_line
 use Rattle.field_lines.proofs.line_at.Reads as line_at_lem
-use Rattle.field_lines.proofs.is_in_force.Reads as force
-use Rattle.field_lines.proofs.has_bit.Reads as has-bit
-use Rattle.field_lines.proofs.has_name.Reads as has-name
-use Rattle.field_lines.proofs.clash.Reads as clash
+use Rattle.field_lines.proofs.FieldLine.is_in_force.Reads as force
+use Rattle.field_lines.proofs.FieldLine.has_bit.Reads as has-bit
+use Rattle.field_lines.proofs.FieldLine.has_name.Reads as has-name
+use Rattle.field_lines.proofs.FieldLine.clashes_with.Reads as clash
 use Rattle.field_lines.proofs.find.Reads as find
 use Rattle.commands.proofs.too_wide.Reads as too_wide
 use Rattle.field_register.proofs.FieldRefusal.code.Reads as number
 use Rattle.field_register.proofs.read.Reads as read
-use Rattle.field_register.proofs.the_bit.Reads as the-bit
-use Rattle.field_register.proofs.the_name.Reads as the-name
+use Rattle.field_register.proofs.Register.empty.Reads as empty
 use Rattle.field_register.proofs.ask.Reads as ask
 use Rattle.field_register.proofs.field_of.Reads as field_of
 use Rattle.field_register.proofs.line_of_name.Reads as line-of-name
@@ -58,11 +57,8 @@ number_unique κs a r s e f = same
 pub read_unique : OneResult read.Post
 read_unique κs a r s e f = same
 
-pub the_bit_unique : OneResult the-bit.Post
-the_bit_unique κs a r s e f = same
-
-pub the_name_unique : OneResult the-name.Post
-the_name_unique κs a r s e f = same
+pub empty_unique : OneResult empty.Post
+empty_unique κs a r s e f = same
 
 pub ask_unique : OneResult ask.Post
 ask_unique κs a r s e f = same

@@ -6,6 +6,7 @@ use mathlib.Core.List.{List}
 use Rattle.words.proofs.Unit.size.Reads as size
 use Rattle.words.proofs.bit_of.Reads as bit-of
 use Rattle.words.proofs.byte_of.Reads as byte_of
+use Rattle.words.proofs.is_inside.Reads as is-inside
 use Rattle.words.proofs.number_of.Reads as number_of_lem
 use Rattle.words.proofs.put_byte.Reads as put_byte
 use Rattle.words.proofs.word_at.Reads as word_at
@@ -19,6 +20,7 @@ use Rattle.windows.proofs.sum.Reads as sum
 use Rattle.windows.proofs.kept.Reads as kept
 use Rattle.windows.proofs.is_good.Reads as is-good
 use Rattle.opcodes.proofs.Refusal.code.Reads as number
+use Rattle.opcodes.proofs.code_of.Reads as verdict-number
 use Rattle.opcodes.proofs.Event.kind.Reads as kind
 use Rattle.opcodes.proofs.Event.value.Reads as value
 use Rattle.opcodes.proofs.look_up.Reads as look_up
@@ -58,6 +60,9 @@ use Rattle.commands.proofs.wrote_setting.Reads as wrote-setting
 use Rattle.commands.proofs.seek.Reads as seek
 use Rattle.flash_runs.proofs.run_plain.Reads as run-plain
 use Rattle.checking.proofs.check.Reads as check
+use Rattle.checking.proofs.Report.code.Reads as report-code
+use Rattle.checking.proofs.Report.entry.Reads as report-entry
+use Rattle.checking.proofs.one_window.Reads as one-window
 use Rattle.checking.proofs.count_fetches.Reads as count-fetches
 use Rattle.checking.proofs.limit_of.Reads as limit-of
 use Rattle.checking.proofs.«open».Reads as check-opening
@@ -99,6 +104,7 @@ use Rattle.sent.specs.rules.Line.{UnitOutcome}
 use Rattle.sent.specs.declared.Session.{Session}
 use Rattle.port.specs.rules.Port.{is_given}
 use Rattle.bench_sessions.proofs.maps.count_of.Reads as count_of
+use Rattle.bench_sessions.proofs.only_refusal.Reads as only-refusal
 use Rattle.bench_sessions.proofs.maps.windows_of.Reads as windows-of
 use Rattle.bench.proofs.ais_flash_fetched.Reads as ais-flash-fetched
 use Rattle.digits.proofs.decimal.Reads as decimal
@@ -147,6 +153,9 @@ bit_of_unique κs a r s e f = same
 pub byte_of_unique : OneResult byte_of.Post
 byte_of_unique κs a r s e f = same
 
+pub is_inside_unique : OneResult is-inside.Post
+is_inside_unique κs a r s e f = same
+
 pub number_of_unique : OneResult number_of_lem.Post
 number_of_unique κs a r s e f = same
 
@@ -188,6 +197,9 @@ is_good_unique κs a r s e f = same
 -- script
 pub number_unique : OneResult number.Post
 number_unique κs a r s e f = same
+
+pub verdict_number_unique : OneResult verdict-number.Post
+verdict_number_unique κs a r s e f = same
 
 pub kind_unique : OneResult kind.Post
 kind_unique κs a r s e f = same
@@ -323,6 +335,15 @@ check_open_unique κs a r s e f = same
 pub check_windows_unique : OneResult check-windows.Post
 check_windows_unique κs a r s e f = same
 
+pub one_window_unique : OneResult one-window.Post
+one_window_unique κs a r s e f = same
+
+pub report_code_unique : OneResult report-code.Post
+report_code_unique κs a r s e f = same
+
+pub report_entry_unique : OneResult report-entry.Post
+report_entry_unique κs a r s e f = same
+
 -- survey
 pub image_absent_unique : OneResult image-absent.Post
 image_absent_unique κs a r s e f = same
@@ -456,6 +477,9 @@ last_digit_unique κs a r s e f = same
 -- hex
 pub hex_read_unique : OneResultAndMemory read.Post (λ κs e. e.1.0.now)
 hex_read_unique κs a r s e f = both_same
+
+pub only_refusal_unique : OneResult only-refusal.Post
+only_refusal_unique κs a r s e f = same
 
 pub hex_write_unique : OneResultAndMemory written.Post (λ κs e. e.1.0.now)
 hex_write_unique κs a r s e f = both_same

@@ -1,46 +1,40 @@
 // What a command does once its words are known, in either mode: judged first, then done. A refused command changes nothing.
 #![tactic(auto)]
 
-ghost use Rattle.std.specs.Prelude.{◌≡◌, ◌*◌, false, [], ◌∷◌};
+ghost use Rattle.std.specs.Prelude.{◌≡◌, false, [], ◌∷◌};
 ghost use Rattle.words.specs.rules.Bytes.{size_of};
 ghost use Rattle.words.specs.rules.Choice.{pick};
 ghost use Rattle.checksum.specs.rules.Checksum.{fed_words};
-ghost use Rattle.commands.specs.rules.Commands.{range_judged, done_if, memory_if, barred, load_judged, unit_of, units_judged, type_judged, fill_judged};
-ghost use Rattle.commands.specs.rules.Commands.{type_filled, fill_done, fill_memory, field_shape, type_shape, shape_of, too_wide, shape_judged, setting_judged};
+ghost use Rattle.commands.specs.rules.Commands.{range_judged, done_if, memory_if, barred, load_judged, unit_of, units_judged, fill_judged};
+ghost use Rattle.commands.specs.rules.Commands.{type_filled, fill_done, fill_memory, field_shape, whole, type_shape, shape_of, too_wide, setting_judged};
 ghost use Rattle.commands.specs.rules.Commands.{shape_set, setting_done, setting_memory, entry_judged, close_done, sought_from};
 ghost use Rattle.commands.specs.rules.Wrote.{none_wrote, bytes_wrote, shape_wrote, setting_wrote};
 
 use opcodes::{Event, Refusal};
-use windows::{Place, Right, Window};
+use windows::{Right, Window};
 use words::Unit;
 
-// Whether a command is granted, and where in the lent memory.
-#[derive(Clone, Copy)]
-pub enum Judged {
-    Granted(usize),
-    Refused(Refusal),
-}
+// Where in the lent memory a command is granted, or what it is refused with.
+pub type Judged = Result<usize, Refusal>;
+
+// Where a seek leads, or what it is refused with.
+pub type Sought = Result<u32, Refusal>;
 
 // The answer to a command.
 #[derive(Clone, Copy)]
 pub struct Done {
-    pub refusal: Refusal,
+    pub refusal: Option<Refusal>,
     pub event: Event,
     pub checksum: u32,
 }
 
-// A type that is a unit of 1, 2 or 4 bytes, or another.
+// Which bits of which unit a Boot Table command sets: the first of them, how many, and whether they are a field.
 #[derive(Clone, Copy)]
-pub enum UnitType {
-    Of(Unit),
-    Other,
-}
-
-// Which bits of which unit a Boot Table command sets: a unit, its first bit, how many, and whether they are a field.
-#[derive(Clone, Copy)]
-pub enum Shape {
-    Bits(Unit, u32, u32, bool),
-    Wrong,
+pub struct Bits {
+    pub unit: Unit,
+    pub start: u32,
+    pub width: u32,
+    pub field: bool,
 }
 
 // The bits of memory that a command wrote, and its number: from bit `start` of the byte at `place` on, `count` of them.
@@ -52,21 +46,11 @@ pub struct Wrote {
     pub number: u32,
 }
 
-// Where a seek leads.
-#[derive(Clone, Copy)]
-pub enum Sought {
-    To(u32),
-    Refused(Refusal),
-}
-
+#[tactic(auto, unfolding(crate::specs::rules::Commands::range_judged))]
 fn judge_range(windows: [Window; 8], right: Right, address: u32, size: u32) -> Judged
     ensures { result ≡ range_judged windows right address size }
 {
-    let place = windows::locate(windows, right, address, size);
-    match place {
-        Place::At(at) => Judged::Granted(at),
-        Place::Nowhere => Judged::Refused(Refusal::Range),
-    }
+    windows::locate(windows, right, address, size).ok_or(Refusal::Range)
 }
 
 // The answer to a command that was judged: `event` and `fed` count where it is granted.
@@ -74,41 +58,35 @@ fn answer(judged: Judged, checksum: u32, event: Event, fed: u32) -> Done
     ensures { result ≡ done_if judged checksum event fed }
 {
     match judged {
-        Judged::Granted(_) => Done {
-            refusal: Refusal::None,
+        Ok(_) => Done {
+            refusal: None,
             event,
             checksum: fed,
         },
-        Judged::Refused(refusal) => Done {
-            refusal,
+        Err(refusal) => Done {
+            refusal: Some(refusal),
             event: Event::Nothing,
             checksum,
         },
     }
 }
 
-// A later refusal of a command that was judged: given where its test holds, unless one was given before.
+// A later refusal of a command that was judged: given where its test holds, unless one was given before. A place is granted anew, since a judgement that is
+// handed on whole is copied byte by byte.
+#[tactic(auto, unfolding(words::specs::rules::Choice::pick))]
 pub fn bar(judged: Judged, test: bool, refusal: Refusal) -> Judged
     ensures { result ≡ barred test refusal judged }
 {
-    match judged {
-        Judged::Granted(place) => barred_if(place, test, refusal),
-        Judged::Refused(first) => Judged::Refused(first),
-    }
-}
-
-// The refusal where the test holds, else the place. It is granted anew, since a judgement that is handed on whole is copied byte by byte.
-fn barred_if(place: usize, test: bool, refusal: Refusal) -> Judged
-    ensures { result ≡ pick test (Judged.Refused refusal) (Judged.Granted place) }
-{
+    let place = judged?;
     if test {
-        return Judged::Refused(refusal);
+        return Err(refusal);
     }
-    Judged::Granted(place)
+    Ok(place)
 }
 
 // Is a load of `size` bytes at an address granted? It is judged as a fill of bytes is: one function for both is not joined to its callers, each of whom would
 // look through all windows by itself.
+#[tactic(auto, using(crate::proofs::Judging::bytes_judged))]
 pub fn judge_load(windows: [Window; 8], address: u32, size: u32) -> Judged
     ensures { result ≡ load_judged windows address size }
 {
@@ -116,72 +94,57 @@ pub fn judge_load(windows: [Window; 8], address: u32, size: u32) -> Judged
 }
 
 // Types 0, 1, 2 are units of 1, 2, 4 bytes.
-fn unit_of(kind: u32) -> UnitType
+#[tactic(auto, unfolding(crate::specs::rules::Commands::unit_of, words::specs::rules::Choice::pick))]
+fn unit_of(kind: u32) -> Option<Unit>
     ensures { result ≡ unit_of kind }
 {
     match kind {
-        0 => UnitType::Of(Unit::One),
-        1 => UnitType::Of(Unit::Two),
-        2 => UnitType::Of(Unit::Four),
-        _ => UnitType::Other,
+        0 => Some(Unit::One),
+        1 => Some(Unit::Two),
+        2 => Some(Unit::Four),
+        _ => None,
     }
 }
 
-// The bytes of a unit.
+// The bytes of a unit, in 32 bits.
 fn unit_bytes(unit: Unit) -> u32
     ensures { result ≡ size_of unit }
 {
-    match unit {
-        Unit::One => 1,
-        Unit::Two => 2,
-        Unit::Four => 4,
-    }
+    unit.size() as u32
 }
 
 // Are whole units at an address granted?
+#[tactic(auto, unfolding(crate::specs::rules::Commands::units_judged, crate::specs::rules::Commands::multiple, words::specs::rules::Choice::pick))]
 fn judge_units(windows: [Window; 8], right: Right, unit: Unit, address: u32, size: u32) -> Judged
     ensures { result ≡ units_judged windows right unit address size }
 {
     let bytes = unit_bytes(unit);
-    if address % bytes != 0 {
-        return Judged::Refused(Refusal::Unaligned);
-    }
-    if size % bytes != 0 {
-        return Judged::Refused(Refusal::Unaligned);
+    if address % bytes != 0 || size % bytes != 0 {
+        return Err(Refusal::Unaligned);
     }
     judge_range(windows, right, address, size)
 }
 
-fn judge_type(windows: [Window; 8], address: u32, size: u32, kind: UnitType) -> Judged
-    ensures { result ≡ type_judged windows address size kind }
-{
-    match kind {
-        UnitType::Other => Judged::Refused(Refusal::TypeWord),
-        UnitType::Of(unit) => judge_units(windows, Right::Load, unit, address, size),
-    }
-}
-
 // Is a fill of `size` bytes at an address granted?
+#[tactic(auto, unfolding(crate::specs::rules::Commands::fill_judged))]
 pub fn judge_fill(windows: [Window; 8], address: u32, size: u32, kind: u32) -> Judged
     ensures { result ≡ fill_judged windows address size kind }
 {
-    judge_type(windows, address, size, unit_of(kind))
+    let unit = unit_of(kind).ok_or(Refusal::TypeWord)?;
+    judge_units(windows, Right::Load, unit, address, size)
 }
 
 // Fills a range where the command is granted.
-fn fill_range(memory: &mut [u8], judged: Judged, size: u32, kind: UnitType, pattern: u32)
+fn fill_range(memory: &mut [u8], judged: Judged, size: u32, kind: Option<Unit>, pattern: u32)
     ensures { memory.new ≡ memory_if judged (λ place. type_filled memory.old place size kind pattern) memory.old }
 {
-    match judged {
-        Judged::Granted(place) => match kind {
-            UnitType::Of(unit) => stores::fill_bytes(memory, place, size, unit, pattern),
-            UnitType::Other => {}
-        },
-        Judged::Refused(_) => {}
+    if let (Ok(place), Some(unit)) = (judged, kind) {
+        stores::fill_bytes(memory, place, size, unit, pattern);
     }
 }
 
 // What a fill feeds.
+#[tactic(auto, unfolding(checksum::specs::rules::Checksum::fed_words, words::specs::rules::Choice::pick))]
 fn feed_fill(on: bool, checksum: u32, address: u32, size: u32, kind: u32, pattern: u32) -> u32
     ensures { result ≡ pick on (fed_words checksum (address ∷ size ∷ kind ∷ pattern ∷ [])) checksum }
 {
@@ -193,6 +156,7 @@ fn feed_fill(on: bool, checksum: u32, address: u32, size: u32, kind: u32, patter
 }
 
 // Does a fill that was judged.
+#[tactic(auto, unfolding(crate::specs::rules::Commands::fill_done, crate::specs::rules::Commands::fill_memory))]
 pub fn fill(
     memory: &mut [u8],
     judged: Judged,
@@ -212,49 +176,55 @@ pub fn fill(
 }
 
 // A field of a word, by the START and STOP of a type word.
-fn field_shape(start: u32, stop: u32) -> Shape
+#[tactic(auto, unfolding(crate::specs::rules::Commands::field_shape, words::specs::rules::Choice::pick))]
+fn field_shape(start: u32, stop: u32) -> Option<Bits>
     ensures { result ≡ field_shape start stop }
 {
-    if stop < start {
-        return Shape::Wrong;
+    if stop < start || 31 < stop {
+        return None;
     }
-    if 31 < stop {
-        return Shape::Wrong;
-    }
-    Shape::Bits(Unit::Four, start, stop - start + 1, true)
+    Some(Bits {
+        unit: Unit::Four,
+        start,
+        width: stop - start + 1,
+        field: true,
+    })
 }
 
 // All bits of a unit.
-fn whole(unit: Unit) -> Shape
-    ensures { result ≡ Shape.Bits unit 0 (8 * size_of unit) false }
+fn whole(unit: Unit) -> Bits
+    ensures { result ≡ whole unit }
 {
-    Shape::Bits(unit, 0, 8 * unit_bytes(unit), false)
+    Bits {
+        unit,
+        start: 0,
+        width: 8 * unit_bytes(unit),
+        field: false,
+    }
 }
 
 // Which bits a type word names, by its type.
-fn type_shape(word: u32, kind: UnitType) -> Shape
+#[tactic(auto, unfolding(words::specs::rules::Choice::pick))]
+fn type_shape(word: u32, kind: Option<Unit>) -> Option<Bits>
     ensures { result ≡ type_shape word kind }
 {
     match kind {
-        UnitType::Of(unit) => whole(unit),
-        UnitType::Other => {
-            if words::byte_of(word, 0) <= 4 {
-                return field_shape(
-                    words::byte_of(word, 1) as u32,
-                    words::byte_of(word, 2) as u32,
-                );
-            }
-            Shape::Wrong
-        }
+        Some(unit) => Some(whole(unit)),
+        None if words::byte_of(word, 0) <= 4 => field_shape(
+            words::byte_of(word, 1) as u32,
+            words::byte_of(word, 2) as u32,
+        ),
+        None => None,
     }
 }
 
 // Which bits a type word names.
-fn shape_of(word: u32) -> Shape
+#[tactic(auto, unfolding(crate::specs::rules::Commands::shape_of, words::specs::rules::Choice::pick))]
+fn shape_of(word: u32) -> Option<Bits>
     ensures { result ≡ shape_of word }
 {
     if words::byte_of(word, 3) != 0 {
-        return Shape::Wrong;
+        return None;
     }
     type_shape(word, unit_of(words::byte_of(word, 0) as u32))
 }
@@ -269,40 +239,35 @@ pub fn too_wide(width: u32, value: u32) -> bool
     false
 }
 
-fn judge_shape(windows: [Window; 8], shape: Shape, address: u32, value: u32) -> Judged
-    ensures { result ≡ shape_judged windows shape address value }
-{
-    match shape {
-        Shape::Wrong => Judged::Refused(Refusal::TypeWord),
-        Shape::Bits(unit, _, width, field) => {
-            if field && too_wide(width, value) {
-                return Judged::Refused(Refusal::TooWide);
-            }
-            judge_units(windows, Right::Set, unit, address, unit_bytes(unit))
-        }
-    }
-}
-
 // Is a Boot Table of a type word, an address and its data granted?
+#[tactic(auto, unfolding(words::specs::rules::Choice::pick))]
 pub fn judge_setting(windows: [Window; 8], word: u32, address: u32, value: u32) -> Judged
     ensures { result ≡ setting_judged windows word address value }
 {
-    judge_shape(windows, shape_of(word), address, value)
+    let bits = shape_of(word).ok_or(Refusal::TypeWord)?;
+    if bits.field && too_wide(bits.width, value) {
+        return Err(Refusal::TooWide);
+    }
+    judge_units(
+        windows,
+        Right::Set,
+        bits.unit,
+        address,
+        unit_bytes(bits.unit),
+    )
 }
 
 // Sets the bits of a shape at a place.
-fn set_shape(memory: &mut [u8], place: usize, shape: Shape, value: u32)
+fn set_shape(memory: &mut [u8], place: usize, shape: Option<Bits>, value: u32)
     ensures { memory.new ≡ shape_set memory.old place shape value }
 {
-    match shape {
-        Shape::Bits(unit, start, width, _) => {
-            words::write_field(memory, place, unit, start, width, value);
-        }
-        Shape::Wrong => {}
+    if let Some(bits) = shape {
+        words::write_field(memory, place, bits.unit, bits.start, bits.width, value);
     }
 }
 
 // Does a Boot Table that was judged. The judgement is looked at once, so that the whole is small enough to be joined to its callers.
+#[tactic(auto, unfolding(crate::specs::rules::Commands::setting_done, crate::specs::rules::Commands::setting_memory))]
 pub fn boot_table(
     memory: &mut [u8],
     judged: Judged,
@@ -315,16 +280,16 @@ pub fn boot_table(
     ensures memory_after { memory.new ≡ setting_memory judged memory.old word value }
 {
     match judged {
-        Judged::Granted(place) => {
+        Ok(place) => {
             set_shape(memory, place, shape_of(word), value);
             Done {
-                refusal: Refusal::None,
+                refusal: None,
                 event: Event::Wait(delay),
                 checksum,
             }
         }
-        Judged::Refused(refusal) => Done {
-            refusal,
+        Err(refusal) => Done {
+            refusal: Some(refusal),
             event: Event::Nothing,
             checksum,
         },
@@ -348,26 +313,26 @@ pub fn wrote_bytes(judged: Judged, size: u32, number: u32) -> Wrote
     ensures { result ≡ bytes_wrote judged size number }
 {
     match judged {
-        Judged::Granted(place) => Wrote {
+        Ok(place) => Wrote {
             place,
             start: 0,
             count: 8 * (size as usize),
             number,
         },
-        Judged::Refused(_) => wrote_none(),
+        Err(_) => wrote_none(),
     }
 }
 
 // What a shape at a place writes.
-fn wrote_shape(place: usize, shape: Shape, number: u32) -> Wrote
+fn wrote_shape(place: usize, shape: Option<Bits>, number: u32) -> Wrote
     ensures { result ≡ shape_wrote place shape number }
 {
     match shape {
-        Shape::Wrong => wrote_none(),
-        Shape::Bits(_, start, width, _) => Wrote {
+        None => wrote_none(),
+        Some(bits) => Wrote {
             place,
-            start,
-            count: width as usize,
+            start: bits.start,
+            count: bits.width as usize,
             number,
         },
     }
@@ -378,26 +343,24 @@ pub fn wrote_setting(judged: Judged, word: u32, number: u32) -> Wrote
     ensures { result ≡ setting_wrote judged word number }
 {
     match judged {
-        Judged::Granted(place) => wrote_shape(place, shape_of(word), number),
-        Judged::Refused(_) => wrote_none(),
+        Ok(place) => wrote_shape(place, shape_of(word), number),
+        Err(_) => wrote_none(),
     }
 }
 
 // May an address be entered?
+#[tactic(auto, unfolding(crate::specs::rules::Commands::entry_judged, crate::specs::rules::Commands::multiple, words::specs::rules::Choice::pick))]
 pub fn judge_entry(windows: [Window; 8], address: u32) -> Judged
     ensures { result ≡ entry_judged windows address }
 {
     if address % 4 != 0 {
-        return Judged::Refused(Refusal::Entry);
+        return Err(Refusal::Entry);
     }
-    let place = windows::locate(windows, Right::Entry, address, 0);
-    match place {
-        Place::At(at) => Judged::Granted(at),
-        Place::Nowhere => Judged::Refused(Refusal::Entry),
-    }
+    windows::locate(windows, Right::Entry, address, 0).ok_or(Refusal::Entry)
 }
 
 // The answer to a Jump & Close that was judged.
+#[tactic(auto, unfolding(crate::specs::rules::Commands::close_done))]
 pub fn jump_and_close(judged: Judged, checksum: u32, address: u32) -> Done
     ensures { result ≡ close_done judged checksum address }
 {
@@ -410,14 +373,8 @@ pub fn seek(request: u32, word: u32) -> Sought
 {
     let after = std::num::wrapping_add_u32(request, 12);
     let target = std::num::wrapping_add_u32(after, word);
-    if target % 4 != 0 {
-        return Sought::Refused(Refusal::Seek);
+    if target % 4 != 0 || target < 4 || request <= target {
+        return Err(Refusal::Seek);
     }
-    if target < 4 {
-        return Sought::Refused(Refusal::Seek);
-    }
-    if request <= target {
-        return Sought::Refused(Refusal::Seek);
-    }
-    Sought::To(target)
+    Ok(target)
 }

@@ -13,14 +13,13 @@ use lib.Seq.{drop-cons}
 use Rattle.words.proofs.Choice.{chosen, passed, by_test, both, refuted}
 use Rattle.digits.specs.rules.Digits.{digit_value}
 use Rattle.digits.specs.rules.Numbers.{are_digits, number_of, number_if, number_up_to, is_marked}
-use Rattle.digits.specs.declared.Number.{Number}
-use Rattle.digits.specs.declared.Number.TheVariants.{Is, Wrong}
+use Rattle.std.specs.Prelude.{Option, Some, None}
 
 -- a number by its test
-pub number_held : (t : Bool) (n : ℕ) → t ≡ true → Is n ≡ number_if t n
+pub number_held : (t : Bool) (n : ℕ) → t ≡ true → Some n ≡ number_if t n
 number_held t n e = sym (chosen t _ _ e)
 
-pub number_refuted : (t : Bool) (n : ℕ) → (t ≡ true → ⊥) → Wrong ≡ number_if t n
+pub number_refuted : (t : Bool) (n : ℕ) → (t ≡ true → ⊥) → None ≡ number_if t n
 number_refuted t n never = sym (passed t _ _ (sym (refuted t never)))
 
 -- the number that digits make behind those that made v
@@ -28,7 +27,7 @@ abbrev behind : ℕ → ℕ → List ℕ → ℕ
 behind base v s = v * base ^ length s + number_of base s
 
 -- and what is read of them
-unfoldable pub read_behind : ℕ → ℕ → ℕ → List ℕ → Number
+unfoldable pub read_behind : ℕ → ℕ → ℕ → List ℕ → Option ℕ
 read_behind base most v s = number_if (are_digits base s && leb (behind base v s) most) (behind base v s)
 
 -- nothing is made so far
@@ -39,7 +38,7 @@ number_begins base most s some =
     let none : behind base 0 s ≡ number_of base s = omega arith in
     rw (none, lt-ltb _ _ long)
 
-pub number_empty : (base most : ℕ) (s : List ℕ) → length s ≡ 0 → Wrong ≡ number_up_to base most s
+pub number_empty : (base most : ℕ) (s : List ℕ) → length s ≡ 0 → None ≡ number_up_to base most s
 unfolding number_up_to
 number_empty base most s e =
     number_refuted _ _ (λ held. let some = ltb-true 0 (length s) (both _ _ (both _ _ held).0).0 in omega arith)
@@ -50,7 +49,7 @@ power_some base some zero = rw (pow-zero base) (omega arith)
 power_some base some (suc k) = rw pow-succ' (le_trans some (le-mul_of_pos_right base (power_some base some k)))
 
 -- a number that is too large stays so
-pub number_large : (base : ℕ) → 1 ≤ base → (most v : ℕ) (s : List ℕ) → most < v → Wrong ≡ read_behind base most v s
+pub number_large : (base : ℕ) → 1 ≤ base → (most v : ℕ) (s : List ℕ) → most < v → None ≡ read_behind base most v s
 unfolding read_behind
 number_large base some most v s h =
     let more : v ≤ v * base ^ length s = le-mul_of_pos_right v (power_some base some (length s)) in
@@ -58,7 +57,7 @@ number_large base some most v s h =
     sym (passed _ _ _ (rw (lt-leb _ _ above, and-false)))
 
 -- none left: the number is made
-pub number_made : (base most v : ℕ) (s : List ℕ) (i : ℕ) → length s ≤ i → v ≤ most → Is v ≡ read_behind base most v (drop i s)
+pub number_made : (base most v : ℕ) (s : List ℕ) (i : ℕ) → length s ≤ i → v ≤ most → Some v ≡ read_behind base most v (drop i s)
 unfolding read_behind are_digits number_of
 number_made base most v s i h small =
     let whole : v * base ^ 0 + 0 ≡ v = rw (pow-zero base) (omega arith) in
@@ -80,7 +79,7 @@ module _ (base most v : ℕ) (s : List ℕ) (i : ℕ) (h : i < length s) where
         let digit : digit_value (get_or s i 0) < base = omega arith in
         rw (worth, front) (rw (lt-ltb _ _ digit, behind_next (get_or s i 0) (drop (i + 1) s)))
 
-    pub number_wrong : base ≤ d → Wrong ≡ read_behind base most v (drop i s)
+    pub number_wrong : base ≤ d → None ≡ read_behind base most v (drop i s)
     unfolding read_behind are_digits
     number_wrong large =
         let strange : base ≤ digit_value (get_or s i 0) = omega arith in
@@ -94,25 +93,25 @@ module _ (base most : ℕ) (s : List ℕ) where
     pub small : number_of base s ≤ most
     pub is : number_of base s ≡ n
 
-  pub made : (n : ℕ) → Is n ≡ number_up_to base most s → Made n
+  pub made : (n : ℕ) → Some n ≡ number_up_to base most s → Made n
   unfolding number_up_to
   made n e =
       by_test (ltb 0 (length s) && are_digits base s && leb (number_of base s) most)
       (λ held.
       let parts = both _ _ held in
       let form = both _ _ parts.0 in
-      let is : Is n ≡ Is (number_of base s) = e ∙ chosen _ _ _ held in
+      let is : Some n ≡ Some (number_of base s) = e ∙ chosen _ _ _ held in
       record { some = ltb-true _ _ form.0; digits = form.1; small = leb-true _ _ parts.1; is = cc })
       (λ failed.
-      let none : Is n ≡ Wrong = e ∙ passed _ _ _ failed in
+      let none : Some n ≡ None = e ∙ passed _ _ _ failed in
       absurd (let z : ◌≡◌ {A = ℕ} 0 1 = cc in omega arith))
 
   -- and one that was not
-  pub not_made : Wrong ≡ number_up_to base most s → 0 < length s → are_digits base s ≡ true → number_of base s ≤ most → ⊥
+  pub not_made : None ≡ number_up_to base most s → 0 < length s → are_digits base s ≡ true → number_of base s ≤ most → ⊥
   unfolding number_up_to
   not_made e some digits small =
       let all = ap₂ ◌&&◌ (ap₂ ◌&&◌ (lt-ltb _ _ some) digits) (le-leb _ _ small) in
-      let is : Wrong ≡ Is (number_of base s) = e ∙ chosen _ _ _ all in
+      let is : None ≡ Some (number_of base s) = e ∙ chosen _ _ _ all in
       let z : ◌≡◌ {A = ℕ} 0 1 = cc in
       omega arith
 

@@ -5,14 +5,8 @@ ghost use Rattle.std.specs.Prelude.{◌≡◌, ◌%◌, ◌≤◌, ◌<◌, ◌^
 ghost use Rattle.digits.specs.rules.Digits.{digit_value, digit_of};
 ghost use Rattle.digits.specs.rules.Numbers.{number_up_to, is_marked, given_of};
 
-// The number that a text makes, if it makes one.
-#[derive(Clone, Copy)]
-pub enum Number {
-    Is(u32),
-    Wrong,
-}
-
 // The value of a digit, letters in either case; 16 for a character that is no digit.
+#[tactic(auto, unfolding(crate::specs::rules::Digits::digit_value, words::specs::rules::Bits::within, words::specs::rules::Choice::pick))]
 fn value_of(character: u8) -> u8
     ensures { result ≡ digit_value character }
 {
@@ -25,58 +19,51 @@ fn value_of(character: u8) -> u8
 }
 
 // The number that one digit or more of a base make, if it is no larger than the most.
-fn number_of(text: &[u8], base: u64, most: u64) -> Number
+fn number_of(text: &[u8], base: u64, most: u64) -> Option<u32>
     requires { (1 ≤ base) × ((base ≤ 16) × (most < 2 ^ 32)) }
     ensures { result ≡ number_up_to base most text.now }
 {
-    if text.len() == 0 {
-        return Number::Wrong;
+    if text.is_empty() {
+        return None;
     }
     let mut value: u64 = 0;
-    let mut i: usize = 0;
-    while i < text.len() {
-        let digit = value_of(text[i]) as u64;
+    for byte in text {
+        let digit = value_of(*byte) as u64;
         if base <= digit {
-            return Number::Wrong;
+            return None;
         }
         value = value * base + digit;
         if most < value {
-            return Number::Wrong;
+            return None;
         }
-        i += 1;
     }
-    Number::Is(value as u32)
+    Some(value as u32)
 }
 
 // The number of decimal digits.
-pub fn decimal(text: &[u8], most: u32) -> Number
+pub fn decimal(text: &[u8], most: u32) -> Option<u32>
     ensures { result ≡ number_up_to 10 most text.now }
 {
     number_of(text, 10, most as u64)
 }
 
 // The number of hexadecimal digits.
-pub fn hexadecimal(text: &[u8], most: u32) -> Number
+pub fn hexadecimal(text: &[u8], most: u32) -> Option<u32>
     ensures { result ≡ number_up_to 16 most text.now }
 {
     number_of(text, 16, most as u64)
 }
 
 // Does 0x stand before the digits?
+#[tactic(auto, unfolding(crate::specs::rules::Numbers::is_marked))]
 fn is_marked(text: &[u8]) -> bool
     ensures { result ≡ is_marked text.now }
 {
-    if text.len() <= 1 {
-        return false;
-    }
-    if text[0] != b'0' {
-        return false;
-    }
-    text[1] == b'x'
+    1 < text.len() && text[0] == b'0' && text[1] == b'x'
 }
 
 // A number of 32 bits that a person gives: 0x and hexadecimal digits, or decimal digits.
-pub fn given(text: &[u8]) -> Number
+pub fn given(text: &[u8]) -> Option<u32>
     ensures { result ≡ given_of text.now }
 {
     if is_marked(text) {
@@ -86,6 +73,7 @@ pub fn given(text: &[u8]) -> Number
 }
 
 // The digit of a value below 16, in capitals: from 10 on the letters, seven places after where the numbers end.
+#[tactic(auto, unfolding(crate::specs::rules::Digits::digit_of, words::specs::rules::Choice::pick))]
 fn digit(value: u8) -> u8
     requires { value < 16 }
     ensures { result ≡ digit_of value }

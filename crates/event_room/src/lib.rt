@@ -17,10 +17,7 @@ pub fn tell(room: &mut [u8], place: usize, event: Event) -> usize
     if kind == 0 {
         return place;
     }
-    if room.len() < 8 {
-        return place;
-    }
-    if room.len() - 8 < place {
+    if room.len() < 8 || room.len() - 8 < place {
         return place;
     }
     words::write(room, place, Unit::Four, kind as u32);

@@ -1,22 +1,32 @@
 -- Hearing and feeding piece by piece: what is left after one piece leads to the same end as before it.
+use Rattle.opcodes.specs.declared.Refusal.{Refusal}
 use Prim.Native.Nat.{ℕ, ◌+◌, ◌*◌, ◌/◌, ◌%◌, ◌^◌, ◌<◌}
 use mathlib.Core.List.{List, [], ◌∷◌, ◌++◌}
 use mathlib.Core.Logic.{◌≢◌}
 use mathlib.Core.Path.{◌≡◌, refl, sym, ap, ap₂, ◌∙◌}
 use native.Mathlib.Numerals.{add-one}
 use native.Mathlib.Omega.{arith}
+use denote.Enum.Bare.{sameb}
+use mathlib.Core.Bool.{true, false, true≢false}
 use lib.Dec.{eqb}
-use lib.ListN.{length, get_or, take, drop, length-take}
-use lib.Seq.{drop-cons, drop-length, get_or-take}
+use lib.ListN.{length, get_or, drop}
+use lib.Seq.{drop-cons, drop-length}
 use borrow.Author.Tests.{eqb-true, eq-eqb, ne_eqb}
+use Rattle.std.specs.Prelude.{Some}
+use Rattle.std.specs.Prelude.{None as Nothing}
+use Rattle.std.specs.Option.{option_or}
 use Rattle.words.specs.rules.Bytes.{byte}
+use Rattle.words.specs.rules.Choice.{pick}
 use Rattle.words.proofs.Choice.{chosen, passed, by_test}
 use Rattle.opcodes.specs.rules.Answers.{told}
 use Rattle.opcodes.specs.declared.Event.{Event}
+use Rattle.opcodes.specs.declared.Refusal.TheVariants as why
+use Rattle.opcodes.specs.contracts.Refusal.{the_type}
+use Rattle.opcodes.specs.rules.Refusals.{Verdict}
 use Rattle.event_room.specs.rules.Room.{place_after, room_after}
 use Rattle.event_room.proofs.Writing.{length_after, place_joined, room_joined}
 use Rattle.sent.specs.rules.Bus.{start_unit, units_of, units_fed, halves_of}
-use Rattle.sent.specs.rules.Feeding.{fed, answers, replied, events_heard, first_of}
+use Rattle.sent.specs.rules.Feeding.{fed, answers, replied, events_heard}
 use Rattle.sent.specs.rules.Line.{unit_step}
 use Rattle.sent.specs.declared.Answer.{Answer}
 use Rattle.sent.specs.declared.Bus.{Bus}
@@ -36,13 +46,11 @@ unfolding heard_all
 heard_append h [] b = refl
 heard_append h (x ∷ a) b = heard_append (hosts.heard h x) a b
 
--- one byte of a reply heard, and those after it left to hear
-pub byte_turn : (h : Host) (bytes : List ℕ) (count i : ℕ) → i < count → i < length bytes
-    → heard_all (hosts.heard h (get_or bytes i 0)) (drop (i + 1) (take count bytes)) ≡ heard_all h (drop i (take count bytes))
+-- one byte heard, and those after it left to hear
+pub byte_turn : (h : Host) (bytes : List ℕ) (i : ℕ) → i < length bytes
+    → heard_all (hosts.heard h (get_or bytes i 0)) (drop (i + 1) bytes) ≡ heard_all h (drop i bytes)
 unfolding heard_all
-byte_turn h bytes count i low inside =
-    let there : i < length (take count bytes) = omega (arith, length-take count bytes) in
-    rw (add-one, drop-cons (take count bytes) i 0 there, get_or-take count bytes i 0 low)
+byte_turn h bytes i inside = rw (add-one, drop-cons bytes i 0 inside)
 
 -- no byte left to hear
 pub all_heard : (h : Host) (i : ℕ) (bytes : List ℕ) → i ≡ length bytes → heard_all h (drop i bytes) ≡ h
@@ -56,33 +64,76 @@ last_append e [] b = refl
 last_append e (x ∷ a) b = last_append x a b
 
 -- the first of three refusals, from either end
-pub first_first : (a b c : ℕ) → first_of a (first_of b c) ≡ first_of (first_of a b) c
-unfolding first_of
-first_first a b c =
-    by_test (eqb a 0)
-    (λ e. chosen _ _ _ e ∙ ap (λ (x : ℕ). first_of x c) (sym (chosen _ _ _ e)))
-    (λ e. passed _ _ _ e ∙ sym (ap (λ (x : ℕ). first_of x c) (passed _ _ _ e) ∙ passed _ _ _ e))
+pub first_first : (a b c : Verdict) → option_or a (option_or b c) ≡ option_or (option_or a b) c
+first_first Nothing b c = refl
+first_first (Some q) b c = refl
 
-pub first_none : (a : ℕ) → first_of a 0 ≡ a
-unfolding first_of
-first_none a = by_test (eqb a 0) (λ e. chosen _ _ _ e ∙ sym (eqb-true _ _ e)) (λ e. passed _ _ _ e)
+pub first_none : (a : Verdict) → option_or a Nothing ≡ a
+first_none Nothing = refl
+first_none (Some q) = refl
 
--- the cases of the first refusal but 14
-module _ (first code : ℕ) where
-  pub keeps_first : first ≢ 0 → first ≡ first_of first (but_ended code)
-  unfolding first_of
-  keeps_first e = sym (passed _ _ _ (ne_eqb first 0 e))
+-- every refusal but 14 counts, and where nothing is refused nothing does
+pub counts : (q : Refusal) → sameb the_type q why.Ended ≡ false → but_ended (Some q) ≡ Some q
+unfolding pick
+counts why.Ended e = absurd (true≢false e)
+counts why.Map e = refl
+counts why.Memory e = refl
+counts why.Image e = refl
+counts why.Magic e = refl
+counts why.Missing e = refl
+counts why.Opcode e = refl
+counts why.Range e = refl
+counts why.TypeWord e = refl
+counts why.Unaligned e = refl
+counts why.Entry e = refl
+counts why.Checksum e = refl
+counts why.Seek e = refl
+counts why.Retired e = refl
+counts why.TooWide e = refl
+counts why.Totals e = refl
+counts why.Overflow e = refl
+counts why.Call e = refl
+counts why.Tries e = refl
+counts why.Length e = refl
+counts why.Digit e = refl
+counts why.Room e = refl
+counts why.Chosen e = refl
+counts why.Number e = refl
 
-  pub counts_none : first ≡ 0 → code ≡ 14 → 0 ≡ first_of first (but_ended code)
-  unfolding first_of
-  counts_none e f = sym (chosen _ _ _ (eq-eqb first 0 e) ∙ chosen _ _ _ (eq-eqb code 14 f))
+pub ended_counts : (q : Refusal) → sameb the_type q why.Ended ≡ true → but_ended (Some q) ≡ Nothing
+unfolding pick
+ended_counts why.Ended e = refl
+ended_counts why.Map e = absurd (true≢false (sym e))
+ended_counts why.Memory e = absurd (true≢false (sym e))
+ended_counts why.Image e = absurd (true≢false (sym e))
+ended_counts why.Magic e = absurd (true≢false (sym e))
+ended_counts why.Missing e = absurd (true≢false (sym e))
+ended_counts why.Opcode e = absurd (true≢false (sym e))
+ended_counts why.Range e = absurd (true≢false (sym e))
+ended_counts why.TypeWord e = absurd (true≢false (sym e))
+ended_counts why.Unaligned e = absurd (true≢false (sym e))
+ended_counts why.Entry e = absurd (true≢false (sym e))
+ended_counts why.Checksum e = absurd (true≢false (sym e))
+ended_counts why.Seek e = absurd (true≢false (sym e))
+ended_counts why.Retired e = absurd (true≢false (sym e))
+ended_counts why.TooWide e = absurd (true≢false (sym e))
+ended_counts why.Totals e = absurd (true≢false (sym e))
+ended_counts why.Overflow e = absurd (true≢false (sym e))
+ended_counts why.Call e = absurd (true≢false (sym e))
+ended_counts why.Tries e = absurd (true≢false (sym e))
+ended_counts why.Length e = absurd (true≢false (sym e))
+ended_counts why.Digit e = absurd (true≢false (sym e))
+ended_counts why.Room e = absurd (true≢false (sym e))
+ended_counts why.Chosen e = absurd (true≢false (sym e))
+ended_counts why.Number e = absurd (true≢false (sym e))
 
-  pub counts_code : first ≡ 0 → code ≢ 14 → code ≡ first_of first (but_ended code)
-  unfolding first_of
-  counts_code e f = sym (chosen _ _ _ (eq-eqb first 0 e) ∙ passed _ _ _ (ne_eqb code 14 f))
+pub none_counts : (first q : Verdict) → ((r : Refusal) → q ≡ Some r → ⊥) → first ≡ option_or first (but_ended q)
+unfolding pick
+none_counts first Nothing e = sym (first_none first)
+none_counts first (Some r) e = absurd (e r refl)
 
 -- standings that agree in all parts
-same_standing : {h h₁ : Host} {x : Session} {e e₁ : Event} {q r r₁ p p₁ : ℕ} → h ≡ h₁ → e ≡ e₁ → r ≡ r₁ → p ≡ p₁
+same_standing : {h h₁ : Host} {x : Session} {e e₁ : Event} {q r r₁ : Verdict} {p p₁ : ℕ} → h ≡ h₁ → e ≡ e₁ → r ≡ r₁ → p ≡ p₁
     → ◌≡◌ {A = Standing} (record { host = h; session = x; event = e; refusal = q; refused = r; told = p })
     (record { host = h₁; session = x; event = e₁; refusal = q; refused = r₁; told = p₁ })
 same_standing a b c d = rw (a, b, c, d) refl

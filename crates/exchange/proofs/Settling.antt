@@ -1,4 +1,5 @@
 -- A talk settles: once the host has ended a turn changes nothing, and before that each turn leaves fewer; so the talk from any of its turns has the same end.
+use Rattle.opcodes.specs.rules.Refusals.{Verdict}
 use Prim.Native.Nat.{ℕ, zero, suc, ◌≤◌, ◌<◌}
 use mathlib.Core.Bool.{true, false, ◌&&◌, true≢false}
 use mathlib.Core.List.{List, [], ◌∷◌, append-nil}
@@ -13,7 +14,7 @@ use Rattle.words.proofs.Choice.{chosen, by_test, of_choice}
 use Rattle.windows.specs.declared.Window.{Window}
 use Rattle.opcodes.specs.declared.Dialect.{Dialect}
 use Rattle.opcodes.specs.declared.Event.{Event}
-use Rattle.opcodes.specs.declared.Refusal.TheVariants as refusal
+use Rattle.opcodes.specs.rules.Refusals as refusal
 use Rattle.event_room.specs.rules.Room.{place_after, room_after}
 use Rattle.event_room.proofs.Writing.{length_after, place_joined, room_joined}
 use Rattle.flash_session.specs.rules.Opening.{good_length}
@@ -61,7 +62,7 @@ heard_ended h (b ∷ bytes) = heard_ended (hosts.heard h b) bytes
 abbrev pub Lent : Host → List ℕ → Type 0
 Lent h image = h.ended ≡ false → is_lent h image ≡ true
 
-same_talk : {h : Host} {x : State} {es es₁ : List Event} {q q₁ r r₁ : ℕ} → es ≡ es₁ → q ≡ q₁ → r ≡ r₁
+same_talk : {h : Host} {x : State} {es es₁ : List Event} {q q₁ r r₁ : Verdict} → es ≡ es₁ → q ≡ q₁ → r ≡ r₁
     → ◌≡◌ {A = Talk} (record { host = h; loader = x; events = es; host_refused = q; loader_refused = r })
     (record { host = h; loader = x; events = es₁; host_refused = q₁; loader_refused = r₁ })
 same_talk a b c = rw (a, b, c) refl
@@ -119,7 +120,7 @@ module _ (image : List ℕ) where
   unfolding onward standing_onward standing_fed
   standing-onward size t = same_events (last_append _ t.events _) (place_joined size 0 t.events _)
     where
-      same_events : {h : Host} {x : Session} {e e₁ : Event} {q r p p₁ : ℕ} → e ≡ e₁ → p ≡ p₁
+      same_events : {h : Host} {x : Session} {e e₁ : Event} {q r : Verdict} {p p₁ : ℕ} → e ≡ e₁ → p ≡ p₁
           → ◌≡◌ {A = Standing} (record { host = h; session = x; event = e; refusal = q; refused = r; told = p })
           (record { host = h; session = x; event = e₁; refusal = q; refused = r; told = p₁ })
       same_events e f = rw (e, f) refl

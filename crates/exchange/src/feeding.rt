@@ -1,10 +1,10 @@
 // What goes out is fed to the loader unit by unit, what it answers is heard by the host, and its events are told in the room.
 ghost use Rattle.std.specs.Prelude.{◌≡◌, [], ◌∷◌, length};
-ghost use Rattle.opcodes.specs.rules.Answers.{code_of, told};
+ghost use Rattle.opcodes.specs.rules.Answers.{told};
 ghost use Rattle.event_room.specs.rules.Room.{room_after};
 ghost use Rattle.machine_answers.specs.rules.Replies.{sent_bytes};
 ghost use Rattle.sent.specs.rules.Bus.{start_unit, units_of, units_fed};
-ghost use Rattle.sent.specs.rules.Feeding.{first_of};
+ghost use Rattle.std.specs.Option.{option_or};
 ghost use Rattle.host_answers.specs.rules.Hosts.{heard_all};
 ghost use Rattle.exchange.specs.rules.Exchange.{units_sent, but_ended};
 ghost use Rattle.exchange.specs.rules.Standing.{last_after, noted, standing_fed, memory_fed, room_fed};
@@ -20,15 +20,10 @@ pub fn hear_all(host: Host, reply: Reply) -> Host
     ensures { result ≡ heard_all host (sent_bytes reply) }
 {
     let bytes = reply.bytes;
-    let count = reply.count as usize;
+    let said = &bytes[..(reply.count as usize).min(sent::Session::MOST_REPLY)];
     let mut live = host;
-    let mut i: usize = 0;
-    while i < sent::Session::MOST_REPLY {
-        if count <= i {
-            return live;
-        }
-        live = live.hear(bytes[i]);
-        i += 1;
+    for byte in said {
+        live = live.hear(*byte);
     }
     live
 }
@@ -45,17 +40,16 @@ fn later(before: Event, event: Event) -> Event
 }
 
 // The first of two refusals, 14 not counted.
-pub fn first_but_ended(first: u8, refusal: Refusal) -> u8
-    ensures { result ≡ first_of first (but_ended (code_of refusal)) }
+pub fn first_but_ended(first: Option<Refusal>, refusal: Option<Refusal>) -> Option<Refusal>
+    ensures { result ≡ option_or first (but_ended refusal) }
 {
-    if first != 0 {
+    let Some(other) = refusal else {
+        return first;
+    };
+    if other == Refusal::Ended {
         return first;
     }
-    let code = refusal.code();
-    if code == 14 {
-        return 0;
-    }
-    code
+    first.or(refusal)
 }
 
 // What a unit's answer changes.
@@ -94,14 +88,11 @@ fn feed(bus: Bus, standing: Standing, memory: &mut [u8], fed: &[u8], room: &mut 
     ensures memory_after { memory.new ≡ memory_fed bus standing memory.old (units_fed bus fed.now) }
     ensures room_after { room.new ≡ room_fed bus standing memory.old room.old (units_fed bus fed.now) }
 {
-    let n = units_in(bus, fed);
     let mut live = standing;
-    let mut i: usize = 0;
-    while i < n {
+    for i in 0..units_in(bus, fed) {
         let session = live.session;
         let answer = session.step_at(memory, bus, fed, i);
         live = note(live, answer, room);
-        i += 1;
     }
     live
 }

@@ -9,29 +9,29 @@ ghost use Rattle.exchange.specs.rules.Exchange.{meeting, exchanged};
 ghost use Rattle.exchange.specs.rules.Standing.{outcome_of, standing_of, left_by, host_turned, standing_onward, memory_onward, room_onward};
 
 use host_answers::{Host, Turned};
-use opcodes::{Dialect, Event};
+use opcodes::{Dialect, Event, Refusal};
 use sent::Bus;
 use windows::Window;
 
-// What an exchange comes to: the code of the host's first refusal, its retries, the code of the loader's first refusal but 14, the last event, and how many
+// What an exchange comes to: the host's first refusal, its retries, the loader's first refusal but 14, the last event, and how many
 // bytes of the room hold events.
 #[derive(Clone, Copy)]
 pub struct Exchanged {
-    pub refusal: u8,
+    pub refusal: Option<Refusal>,
     pub retries: u8,
-    pub refused: u8,
+    pub refused: Option<Refusal>,
     pub event: Event,
     pub told: usize,
 }
 
-// What stands between turns: the host, the loader, the last event, the codes of their first refusals, and the place of the next event in the room.
+// What stands between turns: the host, the loader, the last event, their first refusals, and the place of the next event in the room.
 #[derive(Clone, Copy)]
 pub struct Standing {
     pub host: Host,
     pub session: sent::Session,
     pub event: Event,
-    pub refusal: u8,
-    pub refused: u8,
+    pub refusal: Option<Refusal>,
+    pub refused: Option<Refusal>,
     pub told: usize,
 }
 
@@ -50,15 +50,14 @@ fn meet(
 {
     let opened = Host::open(bus, dialect, image, tries, limit, pings);
     let loader = sent::open_on(bus, dialect, count, windows);
-    let refusal = opened.refusal;
     let reply = loader.reply;
     let session = loader.session;
     Standing {
         host: feeding::hear_all(opened.host, reply),
         session,
         event: Event::Nothing,
-        refusal: refusal.code(),
-        refused: 0,
+        refusal: opened.refusal,
+        refused: None,
         told: 0,
     }
 }

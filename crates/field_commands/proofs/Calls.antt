@@ -5,20 +5,19 @@ use mathlib.Core.List.{List, [], ◌∷◌}
 use mathlib.Core.Path.{◌≡◌, refl, sym, ap, subst, ◌∙◌}
 use native.Mathlib.Omega.{arith}
 use lib.ListN.{get_or}
+use Rattle.std.specs.declared.result.Result.TheVariants.{Ok}
 use Rattle.words.specs.rules.Bytes.{word_at}
 use Rattle.words.specs.rules.Choice.{pick}
 use Rattle.words.proofs.Choice.{of_choice}
 use Rattle.opcodes.specs.rules.Answers.{accepted}
-use Rattle.opcodes.specs.rules.Opcodes.{looked_up}
+use Rattle.opcodes.specs.rules.Opcodes.{looked_up, with_words}
 use Rattle.opcodes.specs.declared.Command.TheVariants.{BootTable}
-use Rattle.opcodes.specs.declared.Found.TheVariants.{Known}
 use Rattle.opcodes.specs.declared.Mode.TheVariants.{Flash}
-use Rattle.opcodes.specs.declared.Refusal.TheVariants as refusal
+use Rattle.opcodes.specs.rules.Refusals as refusal
 use Rattle.ledger.specs.declared.Happening.{Happening}
 use Rattle.reading.specs.rules.Reading.{past_words, argument}
-use Rattle.commands.specs.rules.Commands.{setting_done, setting_memory}
+use Rattle.commands.specs.rules.Commands.{setting_done, setting_memory, Judged}
 use Rattle.commands.specs.declared.Done.{Done}
-use Rattle.commands.specs.declared.Judged.{Judged}
 use Rattle.commands.specs.declared.Wrote.{Wrote}
 use Rattle.flash_session.specs.rules.Sessions.{CallOutcome, fetching, after}
 use Rattle.flash_session.specs.declared.Called.{Called}
@@ -52,7 +51,7 @@ module _ (s : Session) (m image : List ℕ) (kind address value : ℕ) where
   unfolding argument
   argument_is i at e = ap (word_at image) e
 
-  module _ (stands : StandsAt s m image words) (known : looked_up 0x58535907 Flash s.dialect ≡ Known BootTable 4) where
+  module _ (stands : StandsAt s m image words) (known : looked_up 0x58535907 Flash s.dialect ≡ Ok (with_words BootTable 4)) where
     call_is : step_of s m image ≡ setting_of fetched m (past_words s.offset 4) kind address value 0
     unfolding words_at
     call_is =

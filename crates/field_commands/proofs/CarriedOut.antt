@@ -1,6 +1,6 @@
 -- The claim: each mode by its own file, and an ended session answers 14 to anything.
 use mathlib.Core.Path.{refl, sym, subst}
-use Rattle.opcodes.specs.declared.Refusal.TheVariants.{Ended}
+use Rattle.opcodes.specs.rules.Refusals.{Ended}
 use Rattle.flash_session.specs.rules.Sessions.{CallOutcome}
 use Rattle.flash.proofs.Cases.{call_ended}
 use Rattle.field_commands.specs.claims.CarriedOut.{of_call, NotSet, CommandsCarriedOut}

@@ -1,5 +1,6 @@
 -- The command that a register makes, by how it is judged: its windows alone decide before its number does. So in either mode there are three cases, and each
 -- mode has only to say what it makes of a judgement.
+use Rattle.std.specs.Prelude.{Option, Some, None, Ok, Err, ok_or}
 use Prim.Native.Nat.{ℕ}
 use mathlib.Core.List.{List, [], ◌∷◌}
 use mathlib.Core.Path.{◌≡◌, refl, sym, ap, ap₂, subst, ◌∙◌}
@@ -9,17 +10,14 @@ use lib.ListN.{length, get_or}
 use Rattle.words.proofs.Choice.{chosen, passed}
 use Rattle.windows.specs.rules.Window.{sum_of, place_of}
 use Rattle.windows.specs.declared.Window.{Window}
-use Rattle.windows.specs.declared.Place.TheVariants.{At}
 use Rattle.windows.specs.declared.Right.TheVariants.{Set}
 use Rattle.opcodes.specs.declared.Event.TheVariants.{Nothing, Wait}
-use Rattle.opcodes.specs.declared.Refusal.TheVariants as refusal
+use Rattle.opcodes.specs.declared.Refusal.TheVariants as why
+use Rattle.opcodes.specs.rules.Refusals as refusal
 use Rattle.ledger.specs.rules.Totals.{first_spent, is_spent}
 use Rattle.ledger.specs.declared.Totals.{Totals}
-use Rattle.commands.specs.rules.Commands.{placed, barred, setting_judged, setting_memory}
+use Rattle.commands.specs.rules.Commands.{barred, setting_judged, setting_memory, Judged, Shape}
 use Rattle.commands.specs.rules.Wrote.{none_wrote, shape_wrote, setting_wrote}
-use Rattle.commands.specs.declared.Judged.{Judged}
-use Rattle.commands.specs.declared.Judged.TheVariants.{Granted, Refused}
-use Rattle.commands.specs.declared.Shape.{Shape}
 use Rattle.law_effects.proofs.Fields.{named_shape}
 use Rattle.law_effects.proofs.Wrote.{commands_tell}
 use Rattle.field_laws.specs.claims.Meanings.{kind_in, address_in, line_named, Made, IsBootTable}
@@ -38,15 +36,15 @@ five_words (a ∷ b ∷ c ∷ d ∷ f ∷ g ∷ rest) e = absurd (omega arith)
 
 -- what a mode makes of a judgement
 pub record Makes (word value number : ℕ) (m : List ℕ) (makes : Judged → Outcome) : Type 0 where
-  pub granted : (place : ℕ) → makes (Granted place)
+  pub granted : (place : ℕ) → makes (Ok place)
       ≡ record {
         refusal = refusal.None;
         event = Wait 0;
-        wrote = setting_wrote (Granted place) word number;
-        memory = setting_memory (Granted place) m word value;
+        wrote = setting_wrote (Ok place) word number;
+        memory = setting_memory (Ok place) m word value;
       }
-  pub out_of_range : makes (Refused refusal.Range) ≡ record { refusal = refusal.Range; event = Nothing; wrote = none_wrote; memory = m }
-  pub out-of-numbers : makes (Refused refusal.Number) ≡ record { refusal = refusal.Number; event = Nothing; wrote = none_wrote; memory = m }
+  pub out_of_range : makes (Err why.Range) ≡ record { refusal = refusal.Range; event = Nothing; wrote = none_wrote; memory = m }
+  pub out-of-numbers : makes (Err why.Number) ≡ record { refusal = refusal.Number; event = Nothing; wrote = none_wrote; memory = m }
 
 not_set : (q : _) (m : List ℕ) → NotSet q m (record { refusal = q; event = Nothing; wrote = none_wrote; memory = m })
 not_set q m = record { refused = refl; no_event = refl; none_told = refl; kept = refl }
@@ -64,18 +62,22 @@ module _ (text name : List ℕ) (release value : ℕ) (words : List ℕ) (made :
   module _ (windows : List Window) (totals : Totals) (m : List ℕ) (lent : length m ≡ sum_of windows) (makes : Judged → Outcome)
       (mode : Makes (kind_in words) value totals.next m makes) where
     abbrev judged : Judged
-    judged = barred (is_spent totals) refusal.Number (setting_judged windows (kind_in words) (address_in words) value)
+    judged = barred (is_spent totals) why.Number (setting_judged windows (kind_in words) (address_in words) value)
 
-    by_place : setting_judged windows (kind_in words) (address_in words) value ≡ placed refusal.Range (place_of windows Set (address_in words) 4)
-    by_place = does_what_it_says.by_window text name release value words made windows
+    -- its judgement, by where the word has its place
+    judged_at : (found : Option ℕ) → place_of windows Set (address_in words) 4 ≡ found
+        → judged ≡ barred (is_spent totals) why.Number (ok_or found why.Range)
+    judged_at found e =
+        ap (λ (j : Judged). barred (is_spent totals) why.Number j)
+        (does_what_it_says.by_window text name release value words made windows ∙ ap (λ (f : Option ℕ). ok_or f why.Range) e)
 
-    field_set : (place : ℕ) → place_of windows Set (address_in words) 4 ≡ At place
+    field_set : (place : ℕ) → place_of windows Set (address_in words) 4 ≡ Some place
         → FieldSet words value place totals.next m
         (record {
           refusal = refusal.None;
           event = Wait 0;
-          wrote = setting_wrote (Granted place) (kind_in words) totals.next;
-          memory = setting_memory (Granted place) m (kind_in words) value;
+          wrote = setting_wrote (Ok place) (kind_in words) totals.next;
+          memory = setting_memory (Ok place) m (kind_in words) value;
         })
     field_set place over =
         let set = does_what_it_says.accepted text name release value words made windows m place lent over in
@@ -92,16 +94,13 @@ module _ (text name : List ℕ) (release value : ℕ) (words : List ℕ) (made :
     carried_out =
         record {
           sets = λ place over unspent.
-              let granted : judged ≡ Granted place =
-              ap (λ (j : Judged). barred (is_spent totals) refusal.Number j) (by_place ∙ ap (placed refusal.Range) over) ∙ passed _ _ _ unspent in
+              let granted : judged ≡ Ok place = judged_at (Some place) over ∙ passed _ _ _ unspent in
               subst (FieldSet words value place totals.next m) (sym (ap makes granted ∙ mode.granted place)) (field_set place over);
           no_window = λ nowhere.
-              let refused : judged ≡ Refused refusal.Range =
-              ap (λ (j : Judged). barred (is_spent totals) refusal.Number j) (by_place ∙ ap (placed refusal.Range) nowhere) in
+              let refused : judged ≡ Err why.Range = judged_at None nowhere in
               subst (NotSet refusal.Range m) (sym (ap makes refused ∙ mode.out_of_range)) (not_set refusal.Range m);
           no_number = λ place over spent.
-              let refused : judged ≡ Refused refusal.Number =
-              ap (λ (j : Judged). barred (is_spent totals) refusal.Number j) (by_place ∙ ap (placed refusal.Range) over) ∙ chosen _ _ _ spent in
+              let refused : judged ≡ Err why.Number = judged_at (Some place) over ∙ chosen _ _ _ spent in
               subst (NotSet refusal.Number m) (sym (ap makes refused ∙ mode.out-of-numbers)) (not_set refusal.Number m);
         }
 

@@ -1,4 +1,5 @@
 -- The premises by computing, what comes of them by the law, and the byte by computing the call.
+use Rattle.std.specs.Prelude.{Some}
 use Prim.Native.Nat.{ℕ}
 use mathlib.Core.List.{List}
 use mathlib.Core.Path.{◌≡◌, refl}
@@ -8,7 +9,6 @@ use Rattle.words.specs.rules.Bits.{join, with_field}
 use Rattle.words.specs.rules.Bytes.{byte, number, bytes_at, word_at, put, fits, field_fits, field_written}
 use Rattle.words.specs.rules.Choice.{pick}
 use Rattle.windows.specs.rules.Window.{has_right, inside, place_from, place_of, sum_of}
-use Rattle.windows.specs.declared.Place.TheVariants.{At}
 use Rattle.windows.specs.declared.Right.TheVariants.{Set}
 use Rattle.opcodes.specs.rules.Opcodes.{rows, row_serves, found_in, looked_up}
 use Rattle.reading.specs.rules.Reading.{present, argument, read_at}
@@ -37,11 +37,11 @@ unfolding sum_of
 awaiting = record { opcode = refl; lent = refl }
 
 -- the option word lies in the window
-over_word : place_of board Set 0x80000010 4 ≡ At 16
+over_word : place_of board Set 0x80000010 4 ≡ Some 16
 unfolding place_of place_from has_right inside pick
 over_word = refl
 
-urgent : (release : ℕ) (words : List ℕ) (becomes : ℕ) → Made story (bytes_of "priority") release 1 words → place_of board Set (address_in words) 4 ≡ At 16
+urgent : (release : ℕ) (words : List ℕ) (becomes : ℕ) → Made story (bytes_of "priority") release 1 words → place_of board Set (address_in words) 4 ≡ Some 16
     → StandsAt (in_flash words) cleared (image_of words) words → get_or (step_of (in_flash words) cleared (image_of words)).memory 16 0 ≡ becomes
     → Urgent release words becomes
 urgent release words becomes made over stands byte-is =

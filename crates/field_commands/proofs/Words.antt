@@ -7,21 +7,20 @@ use mathlib.Core.Path.{◌≡◌, refl, sym, ap, subst, ◌∙◌}
 use native.Mathlib.Omega.{arith}
 use borrow.Author.Tests.{eqb-true, eqb-false}
 use lib.Dec.{eqb, lit<}
+use Rattle.std.specs.declared.result.Result.TheVariants.{Ok}
 use Rattle.words.specs.rules.Bytes.{byte}
 use Rattle.words.specs.rules.Choice.{pick}
 use Rattle.words.proofs.Choice.{chosen, passed, by_test, of_choice}
 use Rattle.opcodes.specs.rules.Answers.{code_of, accepted, told}
-use Rattle.opcodes.specs.rules.Opcodes.{looked_up}
+use Rattle.opcodes.specs.rules.Opcodes.{looked_up, with_words}
 use Rattle.opcodes.specs.declared.Command.TheVariants.{BootTable}
-use Rattle.opcodes.specs.declared.Found.TheVariants.{Known}
 use Rattle.opcodes.specs.declared.Mode.TheVariants.{Sent}
-use Rattle.opcodes.specs.declared.Refusal.TheVariants as refusal
+use Rattle.opcodes.specs.rules.Refusals as refusal
 use Rattle.ledger.specs.rules.Totals.{settled, numbered}
 use Rattle.ledger.specs.declared.Totals.{Totals}
-use Rattle.commands.specs.rules.Commands.{setting_done, setting_memory}
+use Rattle.commands.specs.rules.Commands.{setting_done, setting_memory, Judged}
 use Rattle.commands.specs.rules.Wrote.{setting_wrote}
 use Rattle.commands.specs.declared.Done.{Done}
-use Rattle.commands.specs.declared.Judged.{Judged}
 use Rattle.law_effects.specs.claims.Fields.{Holds}
 use Rattle.machine_answers.specs.rules.Answers.{WordOutcome, ◌leaving◌, said, quiet, writing, after}
 use Rattle.machine_answers.specs.rules.Replies.{silence, one_word, acknowledged, sent_bytes}
@@ -87,7 +86,8 @@ module _ (reply : Reply) (k : Core) (t : Taken) where
   heard_replies quietly Bytes = ap (λ (r : Reply). sent_bytes reply ++ (sent_bytes r ++ [])) quietly ∙ append-nil (sent_bytes reply)
   heard_replies quietly Halves = ap (λ (r : Reply). sent_bytes reply ++ (sent_bytes r ++ [])) quietly ∙ append-nil (sent_bytes reply)
 
-module _ (k : Core) (m : List ℕ) (kind address value : ℕ) (awaits : Awaits k m) (known : looked_up 0x58535907 Sent k.dialect ≡ Known BootTable 4) where
+module _ (k : Core) (m : List ℕ) (kind address value : ℕ) (awaits : Awaits k m)
+    (known : looked_up 0x58535907 Sent k.dialect ≡ Ok (with_words BootTable 4)) where
   abbrev words : List ℕ
   words = 0x58535907 ∷ kind ∷ address ∷ value ∷ 0 ∷ []
 

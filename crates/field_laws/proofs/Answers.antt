@@ -2,15 +2,15 @@
 use Prim.Native.Nat.{ℕ, zero, suc, ◌<◌}
 use mathlib.Core.Bool.{true, false, true≢false}
 use mathlib.Core.List.{List, [], ◌∷◌}
-use mathlib.Core.Path.{◌≡◌, refl, sym, ap, ◌∙◌}
+use mathlib.Core.Path.{◌≡◌, sym, ap, ◌∙◌}
 use native.Mathlib.Omega.{arith}
 use borrow.Author.Tests.{leb-true, leb-false}
+use Rattle.std.specs.Prelude.{Option, Some, None}
 use lib.Dec.{leb}
 use lib.ListN.{length}
 use Rattle.words.proofs.Choice.{chosen, passed, by_test, of_choice}
 use Rattle.field_lines.specs.declared.FieldLine.{FieldLine}
-use Rattle.field_register.specs.rules.Questions.{answers, found, none_found, asked, found_in}
-use Rattle.field_register.specs.declared.FoundLine.{FoundLine}
+use Rattle.field_register.specs.rules.Questions.{answers, asked, found_in}
 use Rattle.field_register.specs.declared.Subject.{Subject}
 use Rattle.field_laws.specs.claims.Meanings.{nth, register_of, lines_of, OneAnswer}
 use Rattle.field_laws.proofs.Clashing.{both_answer}
@@ -32,7 +32,7 @@ module _ (s : Subject) (release : ℕ) where
 
   -- the only one that answers is found
   found_at : (ls : List FieldLine) (i : ℕ) → i < length ls → answers s release (nth ls i) ≡ true
-      → ((j : ℕ) → j < i → answers s release (nth ls j) ≡ false) → found_in s release ls ≡ found (nth ls i)
+      → ((j : ℕ) → j < i → answers s release (nth ls j) ≡ false) → found_in s release ls ≡ Some (nth ls i)
   unfolding found_in
   found_at [] i h e first = absurd (omega arith)
   found_at (l ∷ ls) zero h e first = chosen _ _ _ e
@@ -44,25 +44,15 @@ module _ (s : Subject) (release : ℕ) where
   no_earlier ls good i j h k e =
       by_test (answers s release (nth ls j)) (λ f. absurd (not_both ls good j i k h f e)) (λ none. none)
 
-  pub none-found : (ls : List FieldLine) → (found_in s release ls).found ≡ false → found_in s release ls ≡ none_found
-  unfolding found_in
-  none-found [] e = refl
-  none-found (l ∷ ls) e =
-      by_test (answers s release l)
-      (λ held. absurd (true≢false (sym (ap (λ (f : FoundLine). f.found) (chosen (answers s release l) (found l) (found_in s release ls) held)) ∙ e)))
-      (λ failed.
-      passed _ _ _ failed
-      ∙ none-found ls (sym (ap (λ (f : FoundLine). f.found) (passed (answers s release l) (found l) (found_in s release ls) failed)) ∙ e))
-
   -- where none is found none answers
-  not_first : (ls : List FieldLine) (l : FieldLine) → found_in s release (l ∷ ls) ≡ none_found → answers s release l ≡ false
+  not_first : (ls : List FieldLine) (l : FieldLine) → found_in s release (l ∷ ls) ≡ None → answers s release l ≡ false
   unfolding found_in
   not_first ls l e =
       by_test (answers s release l)
-      (λ held. absurd (true≢false (ap (λ (f : FoundLine). f.found) (sym (chosen _ _ _ held) ∙ e))))
+      (λ held. let one : Some l ≡ None = sym (chosen _ _ _ held) ∙ e in cc)
       (λ failed. failed)
 
-  pub none_at : (ls : List FieldLine) → found_in s release ls ≡ none_found → (i : ℕ) → i < length ls → answers s release (nth ls i) ≡ false
+  pub none_at : (ls : List FieldLine) → found_in s release ls ≡ None → (i : ℕ) → i < length ls → answers s release (nth ls i) ≡ false
   unfolding found_in
   none_at [] e i h = absurd (omega arith)
   none_at (l ∷ ls) e zero h = not_first ls l e
@@ -75,23 +65,22 @@ pub record Where (s : Subject) (release : ℕ) (ls : List FieldLine) (l : FieldL
   pub is : nth ls number ≡ l
   pub answers_it : answers s release l ≡ true
 
-pub where_found : (s : Subject) (release : ℕ) (ls : List FieldLine) → (found_in s release ls).found ≡ true → Where s release ls (found_in s release ls).line
+pub where_found : (s : Subject) (release : ℕ) (ls : List FieldLine) (l : FieldLine) → found_in s release ls ≡ Some l → Where s release ls l
 unfolding found_in
-where_found s release [] e = absurd (true≢false (sym e))
-where_found s release (l ∷ ls) e =
-    of_choice (λ (f : FoundLine). f.found ≡ true → Where s release (l ∷ ls) f.line) (answers s release l)
-    (λ held some. record { number = 0; below = omega arith; is = refl; answers_it = held })
-    (λ failed some.
-    let w = where_found s release ls some in
+where_found s release [] l = λ e. cc
+where_found s release (m ∷ ls) l =
+    of_choice (λ (f : Option FieldLine). f ≡ Some l → Where s release (m ∷ ls) l) (answers s release m)
+    (λ held e. let is : m ≡ l = cc in record { number = 0; below = omega arith; is = is; answers_it = rw (← is) held })
+    (λ failed e.
+    let w = where_found s release ls l e in
     record { number = suc w.number; below = omega (arith, w.below); is = w.is; answers_it = w.answers_it })
-    e
 
 pub the_answer_is : (text : List ℕ) (s : Subject) (release i : ℕ) → i < length (lines_of text)
-    → answers s release (nth (lines_of text) i) ≡ true → asked (register_of text) s release ≡ found (nth (lines_of text) i)
+    → answers s release (nth (lines_of text) i) ≡ true → asked (register_of text) s release ≡ Some (nth (lines_of text) i)
 the_answer_is text s release i h e =
     found_at s release (lines_of text) i h e (λ j k. no_earlier s release (lines_of text) (lines_good text) i j h k e)
 
-none_of_none : (s : Subject) (release : ℕ) (ls : List FieldLine) → ls ≡ [] → found_in s release ls ≡ none_found
+none_of_none : (s : Subject) (release : ℕ) (ls : List FieldLine) → ls ≡ [] → found_in s release ls ≡ None
 unfolding found_in
 none_of_none s release ls e = ap (found_in s release) e
 

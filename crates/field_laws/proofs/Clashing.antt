@@ -5,8 +5,7 @@ use mathlib.Core.Path.{◌≡◌, refl, sym, ap₂, ◌∙◌}
 use native.Mathlib.Omega.{arith}
 use borrow.Author.Tests.{leb-true, le-leb, eqb-true, eq-eqb}
 use lib.Dec.{eqb, leb}
-use Rattle.words.specs.rules.Choice.{pick}
-use Rattle.words.proofs.Choice.{chosen, passed, by_test, both}
+use Rattle.words.proofs.Choice.{by_test, both}
 use Rattle.field_lines.specs.rules.Clashes.{lasts, in_force, has_bit, share_release, share_bit, clash}
 use Rattle.field_lines.specs.rules.Lines.{in_order}
 use Rattle.field_lines.specs.rules.Text.{same}
@@ -14,6 +13,7 @@ use Rattle.field_lines.specs.declared.FieldLine.{FieldLine}
 use Rattle.field_lines.proofs.SameBytes.{same_equal, same_refl}
 use Rattle.field_register.specs.rules.Questions.{is_about, answers}
 use Rattle.field_register.specs.declared.Subject.{Subject}
+use Rattle.field_register.specs.declared.Subject.TheVariants.{Name, Bit}
 use Rattle.field_laws.specs.claims.Meanings.{ClashMeans}
 
 -- one of two: the first, or else the second
@@ -90,15 +90,14 @@ module _ (a b : FieldLine) where
   -- two lines that answer one question in one release clash
   pub both_answer : (s : Subject) (r : ℕ) → answers s r a ≡ true → answers s r b ≡ true → clash a b ≡ true
   unfolding answers is_about
-  both_answer s r e f =
-      let x = both (pick s.named (same a.name s.name) (has_bit a s.word s.bit)) _ e in
-      let y = both (pick s.named (same b.name s.name) (has_bit b s.word s.bit)) _ f in
-      by_test s.named
-      (λ named.
-      let m : a.name ≡ s.name = same_equal a.name s.name (sym (chosen _ _ _ named) ∙ x.0) in
-      let n : b.name ≡ s.name = same_equal b.name s.name (sym (chosen _ _ _ named) ∙ y.0) in
-      clash_name r x.1 y.1 (rw (m, n) (same_refl s.name)))
-      (λ bit. clash_bit r s.word s.bit x.1 y.1 (sym (passed _ _ _ bit) ∙ x.0) (sym (passed _ _ _ bit) ∙ y.0))
+  both_answer (Name name) r e f =
+      let x = both (same a.name name) _ e in
+      let y = both (same b.name name) _ f in
+      clash_name r x.1 y.1 (rw (same_equal a.name name x.0, same_equal b.name name y.0) (same_refl name))
+  both_answer (Bit word bit) r e f =
+      let x = both (has_bit a word bit) _ e in
+      let y = both (has_bit b word bit) _ f in
+      clash_bit r word bit x.1 y.1 x.0 y.0
 
   record Clashing : Type 0 where
     pub a_lasts : lasts a b.since ≡ true

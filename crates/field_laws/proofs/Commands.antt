@@ -1,11 +1,13 @@
 -- The command that is made for a name: its words name the line's own bits, and setting them is what the loader does with such a command.
 use Prim.Native.Nat.{ℕ, zero, suc, ◌+◌, ◌-◌, ◌^◌, ◌≤◌, ◌<◌}
-use mathlib.Core.Bool.{Bool, true, false, not, ◌&&◌}
+use mathlib.Core.Bool.{Bool, false, ◌&&◌}
 use mathlib.Core.List.{List}
-use mathlib.Core.Path.{◌≡◌, sym, ap, ap₂, ◌∙◌}
+use mathlib.Core.Path.{◌≡◌, refl, sym, ap, ap₂, ◌∙◌}
 use native.Mathlib.Nat.{mod-eq_of_lt, lt_of_lt_of_le}
 use native.Mathlib.Omega.{arith}
-use borrow.Author.Tests.{not-false, leb-false}
+use borrow.Author.Tests.{leb-false}
+use Rattle.std.specs.Prelude.{Option, Some, None, Result, Ok, Err}
+use Rattle.std.specs.Option.{option_map_or}
 use lib.Dec.{leb, ltb, lit<, leb-suc-suc}
 use lib.ListN.{get_or}
 use lib.Pow.{pow_mono}
@@ -15,32 +17,26 @@ use Rattle.words.proofs.Choice.{of_choice}
 use Rattle.commands.specs.rules.Commands.{start_of, stop_of, width_of, too_wide}
 use Rattle.law_effects.specs.claims.Fields.{NamesField, field_width}
 use Rattle.field_lines.specs.declared.FieldLine.{FieldLine}
-use Rattle.field_register.specs.rules.Commands.{start_byte, stop_byte, type_word, words_for, not_made, command_of}
-use Rattle.field_register.specs.declared.FoundLine.{FoundLine}
+use Rattle.field_register.specs.rules.Commands.{start_byte, stop_byte, type_word, words_for, command_of}
 use Rattle.field_register.specs.declared.FieldRefusal.{FieldRefusal}
-use Rattle.field_register.specs.declared.FieldRefusal.TheVariants.{None, NoField, TooWide}
-use Rattle.field_register.specs.declared.Setting.{Setting}
+use Rattle.field_register.specs.declared.FieldRefusal.TheVariants.{NoField}
 use Rattle.field_laws.specs.claims.WellFormed.{InRanges}
 
 -- what a command that was made says of the line
-pub record OfLine (f : FoundLine) (value : ℕ) (words : List ℕ) : Type 0 where
-  pub is_found : f.found ≡ true
-  pub fits : too_wide (width_of (start_byte f.line) (stop_byte f.line)) value ≡ false
-  pub words_are : words_for f.line value ≡ words
+pub record OfLine (f : Option FieldLine) (value : ℕ) (words : List ℕ) : Type 0 where
+  pub line : FieldLine
+  pub is_found : f ≡ Some line
+  pub fits : too_wide (width_of (start_byte line) (stop_byte line)) value ≡ false
+  pub words_are : words_for line value ≡ words
 
-another : (q : FieldRefusal) {words : List ℕ} {P : Type 0} → (q ≡ None → ⊥) → not_made q ≡ record { refusal = None; words = words } → P
-another q never e = absurd (never (ap (λ (s : Setting). s.refusal) e))
-
-pub of_line : (f : FoundLine) (value : ℕ) (words : List ℕ) → command_of f value ≡ record { refusal = None; words = words } → OfLine f value words
+pub of_line : (f : Option FieldLine) (value : ℕ) (words : List ℕ) → option_map_or (λ l. command_of l value) f (Err NoField) ≡ Ok words
+    → OfLine f value words
 unfolding command_of
-of_line f value words =
-    of_choice (λ (s : Setting). s ≡ record { refusal = None; words = words } → OfLine f value words) (not f.found)
-    (λ none. another NoField (λ e. let z : ◌≡◌ {A = ℕ} 0 1 = cc in omega arith))
-    (λ some.
-    of_choice (λ (s : Setting). s ≡ record { refusal = None; words = words } → OfLine f value words)
-    (too_wide (width_of (start_byte f.line) (stop_byte f.line)) value)
-    (λ wide. another TooWide (λ e. let z : ◌≡◌ {A = ℕ} 0 1 = cc in omega arith))
-    (λ fit e. record { is_found = not-false _ some; fits = fit; words_are = ap (λ (s : Setting). s.words) e }))
+of_line None value words = λ e. cc
+of_line (Some l) value words =
+    of_choice (λ (made : Result (List ℕ) FieldRefusal). made ≡ Ok words → OfLine (Some l) value words)
+    (too_wide (width_of (start_byte l) (stop_byte l)) value) (λ wide e. cc)
+    (λ fit e. let is : words_for l value ≡ words = cc in record { line = l; is_found = refl; fits = fit; words_are = is })
 
 -- a place below the end of a field is one up to its last bit
 same_end : (s t k : ℕ) → s ≤ t → ltb k (s + (t - s + 1)) ≡ leb k t

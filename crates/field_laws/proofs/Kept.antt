@@ -1,11 +1,12 @@
 -- What the lines of a register that was read keep: each is in its ranges, and no two clash. A line is only added where it was read and clashes with no
 -- earlier one.
 use Prim.Native.Nat.{ℕ, zero, suc, ◌+◌, ◌≤◌, ◌<◌}
-use mathlib.Core.Bool.{false, not}
+use mathlib.Core.Bool.{false}
 use mathlib.Core.List.{List, [], ◌∷◌, ◌++◌}
-use mathlib.Core.Path.{◌≡◌, refl, ap, ◌∙◌}
+use mathlib.Core.Path.{◌≡◌, ap, ◌∙◌}
 use native.Mathlib.Omega.{arith}
-use borrow.Author.Tests.{leb-true, leb-false, not-false}
+use borrow.Author.Tests.{leb-true, leb-false}
+use Rattle.std.specs.Prelude.{Ok, Err, IsErr}
 use lib.Dec.{leb}
 use lib.ListN.{length, length-append, get_or-append}
 use lib.Seq.{take-append_seam, get_or-append_seam}
@@ -13,11 +14,11 @@ use Rattle.words.proofs.Choice.{by_test, of_choice, neither}
 use Rattle.field_lines.specs.rules.Clashes.{clash}
 use Rattle.field_lines.specs.rules.Lines.{no_line, line_at}
 use Rattle.field_lines.specs.declared.FieldLine.{FieldLine}
-use Rattle.field_register.specs.rules.Reading.{kept, lines_in, read_as, refused_at, clashes, read_from, reading_of}
-use Rattle.field_register.specs.declared.Reading.{Reading}
+use Rattle.field_register.specs.rules.Reading.{Reading, kept, lines_in, read_as, refused_at, clashes, read_from, reading_of}
 use Rattle.field_register.specs.declared.FieldRefusal.{FieldRefusal}
-use Rattle.field_register.specs.declared.FieldRefusal.TheVariants.{None, Malformed, Clash}
-use Rattle.field_laws.specs.claims.Meanings.{nth, lines_of}
+use Rattle.field_register.specs.declared.FieldRefusal.TheVariants.{Malformed, Clash}
+use Rattle.field_laws.specs.claims.Meanings.{nth, register_in, lines_of}
+use Rattle.field_register.proofs.ByLine.{by_line}
 use Rattle.field_laws.specs.claims.WellFormed.{InRanges}
 use Rattle.field_laws.proofs.LinesRead.{line_written}
 
@@ -75,7 +76,7 @@ unfolding lines_in kept
 lines_kept ls = take-append_seam ls _
 
 abbrev Kept : Reading → Type 0
-Kept q = GoodLines (lines_in q.register)
+Kept q = GoodLines (lines_in (register_in q))
 
 kept_as : (ls : List FieldLine) → GoodLines ls → Kept (read_as ls)
 kept_as ls good = rw (lines_kept ls) good
@@ -89,30 +90,20 @@ read_good zero ls text at good = of_choice Kept _ (λ e. kept_as ls good) (λ e.
 read_good (suc allowed) ls text at good =
     of_choice Kept _ (λ e. kept_as ls good)
     (λ e.
-    of_choice Kept (not (line_at text at).good) (λ bad. kept_refused Malformed (length ls + 1))
-    (λ right.
-    of_choice Kept (clashes ls (line_at text at).line) (λ clashing. kept_refused Clash (length ls + 1))
+    by_line Kept (line_at text at) _ (λ none. kept_refused Malformed (length ls + 1))
+    (λ p there.
+    of_choice Kept (clashes ls p.line) (λ clashing. kept_refused Clash (length ls + 1))
     (λ free.
-    read_good allowed (ls ++ (line_at text at).line ∷ []) text (line_at text at).next
-    (more_good ls (line_at text at).line good free (line_written text at (not-false _ right)).well_formed.in_ranges))))
+    read_good allowed (ls ++ p.line ∷ []) text p.next
+    (more_good ls p.line good free (line_written text at p there).well_formed.in_ranges))))
 
 pub lines_good : (text : List ℕ) → GoodLines (lines_of text)
 lines_good text = read_good 200 [] text 0 none_good
 
 -- a refused text leaves no line
-abbrev Empty : Reading → Type 0
-Empty q = (q.refusal ≡ None → ⊥) → lines_in q.register ≡ []
-
-empty_from : (allowed : ℕ) (ls : List FieldLine) (text : List ℕ) (at : ℕ) → Empty (read_from allowed ls text at)
-unfolding read_from
-empty_from zero ls text at = of_choice Empty _ (λ e some. absurd (some refl)) (λ e some. lines_kept [])
-empty_from (suc allowed) ls text at =
-    of_choice Empty _ (λ e some. absurd (some refl))
-    (λ e.
-    of_choice Empty (not (line_at text at).good) (λ bad some. lines_kept [])
-    (λ right.
-    of_choice Empty (clashes ls (line_at text at).line) (λ clashing some. lines_kept [])
-    (λ free. empty_from allowed (ls ++ (line_at text at).line ∷ []) text (line_at text at).next)))
-
-pub refused_empty : (text : List ℕ) → ((reading_of text).refusal ≡ None → ⊥) → lines_of text ≡ []
-refused_empty text = empty_from 200 [] text 0
+pub refused_empty : (text : List ℕ) → IsErr (reading_of text) → lines_of text ≡ []
+refused_empty text = none_of (reading_of text)
+  where
+    none_of : (q : Reading) → IsErr q → lines_in (register_in q) ≡ []
+    none_of (Ok r) e = cc
+    none_of (Err q) e = lines_kept []

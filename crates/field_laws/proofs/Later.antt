@@ -5,12 +5,12 @@ use mathlib.Core.List.{List, [], ◌∷◌}
 use mathlib.Core.Path.{◌≡◌, refl, sym, ap, ap₂, ◌∙◌}
 use native.Mathlib.Omega.{arith}
 use borrow.Author.Tests.{le-leb, lt-leb}
+use Rattle.std.specs.Prelude.{Option, Some}
 use lib.Dec.{eqb}
 use Rattle.words.specs.rules.Choice.{pick}
 use Rattle.field_lines.specs.rules.Clashes.{lasts, in_force}
 use Rattle.field_lines.specs.declared.FieldLine.{FieldLine}
-use Rattle.field_register.specs.rules.Questions.{is_about, answers, found, found_in}
-use Rattle.field_register.specs.declared.FoundLine.{FoundLine}
+use Rattle.field_register.specs.rules.Questions.{is_about, answers, found_in}
 use Rattle.field_register.specs.declared.Subject.{Subject}
 use Rattle.field_laws.specs.claims.Meanings.{lines_of, LaterThanAny, still_in_force, LaterReleases}
 use Rattle.field_laws.proofs.Kept.{lines_good}
@@ -28,7 +28,7 @@ unfolding found_in still_in_force
 still s release [] later = refl
 still s release (l ∷ ls) later =
     let first = later 0 (omega arith) in
-    ap₂ (λ (t : Bool) (rest : FoundLine). pick t (found l) rest) (answers_still s release l first.0 first.1)
+    ap₂ (λ (t : Bool) (rest : Option FieldLine). pick t (Some l) rest) (answers_still s release l first.0 first.1)
     (still s release ls (λ i h. later (suc i) (omega arith)))
 
 pub later_releases : LaterReleases

@@ -1,26 +1,27 @@
 -- A line is its six pairs, one behind the other: what is read of each is written there, and where they are written each is read where the one before it ends.
 use Prim.Native.Nat.{ℕ, ◌+◌, ◌%◌}
 use Prim.Native.Char.{code}
-use mathlib.Core.Bool.{true, ◌&&◌, true≢false}
+use mathlib.Core.Bool.{true, ◌&&◌}
 use mathlib.Core.List.{List, ◌∷◌, ◌++◌, append_assoc}
-use mathlib.Core.Path.{◌≡◌, refl, sym, ap, ap₂, ◌∙◌}
+use mathlib.Core.Path.{◌≡◌, refl, sym, ap, ap₂, subst, ◌∙◌}
 use native.Mathlib.Omega.{arith}
 use borrow.Author.Tests.{leb-true, le-leb, eqb-true, eq-eqb, eqb-false, ne_eqb}
 use lib.Dec.{eqb, leb, lit<, lit≤}
+use Rattle.std.specs.Prelude.{Option, Some}
+use Rattle.std.proofs.lemmas.Option.{option_and_then_some}
 use lib.ListN.{length, drop, length-append}
 use lib.Seq.{drop-append_seam}
 use Rattle.words.proofs.Choice.{chosen, by_test, both, of_choice}
-use Rattle.field_lines.specs.rules.Lines.{Pairs, pairs_at, all_good, line_of, in_order, parsed_if, line_at}
-use Rattle.field_lines.specs.rules.Pairs.{word_pair, start_pair, stop_pair, since_pair, until_pair}
+use Rattle.field_lines.specs.rules.Lines.{line_of, in_order, parsed_if, line_at}
+use Rattle.field_lines.specs.rules.Pairs.{field_pair, word_pair, start_pair, stop_pair, since_pair, until_pair}
 use Rattle.field_lines.specs.rules.Text.{bytes_of}
 use Rattle.field_lines.specs.declared.FieldLine.{FieldLine}
-use Rattle.field_lines.specs.declared.Named.{Named}
 use Rattle.field_lines.specs.declared.Pair.{Pair}
 use Rattle.field_lines.specs.declared.Parsed.{Parsed}
 use Rattle.field_laws.specs.claims.WellFormed.{written, InRanges, line_text, WellFormed, Stands}
 use Rattle.field_laws.proofs.Clashing.{or_first, or_second, or_else}
 use Rattle.field_laws.proofs.PairsRead.{PairAt}
-use Rattle.field_laws.proofs.ValuesRead.{numbered, decimal_read, decimal_is, word_read, word_is, name_read, name_is}
+use Rattle.field_laws.proofs.ValuesRead.{decimal_read, decimal_is, word_read, word_is, name_read, name_is}
 
 -- a space
 abbrev space : ℕ
@@ -73,80 +74,77 @@ module _ (text : List ℕ) (at : ℕ) (l : FieldLine) (name address : List ℕ) 
 
 -- what is read of a line
 module _ (text : List ℕ) (at : ℕ) where
-  abbrev pairs : Pairs
-  pairs = pairs_at text at
-
-  read_so : (all_good pairs && in_order (line_of pairs)) ≡ true → Stands text at (record { good = true; line = line_of pairs; next = pairs.until.next })
+  -- six pairs, each where the one before it ends, that are right together
+  read_so : (field : Pair (List ℕ)) (word start stop since until : Pair ℕ) → field_pair text at ≡ Some field → word_pair text field.next ≡ Some word
+      → start_pair text word.next ≡ Some start → stop_pair text start.next ≡ Some stop → since_pair text stop.next ≡ Some since
+      → until_pair text since.next ≡ Some until → in_order (line_of field word start stop since until) ≡ true
+      → Stands text at (record { line = line_of field word start stop since until; next = until.next })
   unfolding in_order
-  read_so held =
-      let whole = both (all_good pairs) _ held in
-      let ordered = both (eqb (pairs.word.value % 4) 0 && leb pairs.start.value pairs.stop.value) _ whole.1 in
-      let front = both (eqb (pairs.word.value % 4) 0) _ ordered.0 in
-      let five = both (pairs.field.name.good && pairs.word.good && pairs.start.good && pairs.stop.good && pairs.since.good) _ whole.0 in
-      let four = both (pairs.field.name.good && pairs.word.good && pairs.start.good && pairs.stop.good) _ five.0 in
-      let three = both (pairs.field.name.good && pairs.word.good && pairs.start.good) _ four.0 in
-      let two = both (pairs.field.name.good && pairs.word.good) _ three.0 in
-      let one = both pairs.field.name.good _ two.0 in
-      let field = name_read text at one.0 in
-      let word = word_read text pairs.field.next one.1 in
-      let start = decimal_read text pairs.word.next (bytes_of "start=") 0 31 space (lit≤ tt) two.1 in
-      let stop = decimal_read text pairs.start.next (bytes_of "stop=") 0 31 space (lit≤ tt) three.1 in
-      let since = decimal_read text pairs.stop.next (bytes_of "since=") 1 9999 space (lit≤ tt) four.1 in
-      let until = decimal_read text pairs.since.next (bytes_of "until=") 0 9999 (code "\n") (lit≤ tt) five.1 in
-      let line : List ℕ = line_text (line_of pairs) field.name word.address in
+  read_so field word start stop since until f w s t i u held =
+      let ordered = both (eqb (word.value % 4) 0 && leb start.value stop.value) _ held in
+      let front = both (eqb (word.value % 4) 0) _ ordered.0 in
+      let name = name_read text at field f in
+      let address = word_read text field.next word w in
+      let first = decimal_read text word.next (bytes_of "start=") 0 31 space (lit≤ tt) start s in
+      let last = decimal_read text start.next (bytes_of "stop=") 0 31 space (lit≤ tt) stop t in
+      let begin = decimal_read text stop.next (bytes_of "since=") 1 9999 space (lit≤ tt) since i in
+      let end = decimal_read text since.next (bytes_of "until=") 0 9999 (code "\n") (lit≤ tt) until u in
+      let l : FieldLine = line_of field word start stop since until in
       record {
-        line = line;
+        line = line_text l name.name address.address;
         well_formed = record {
-          name = field.name;
-          address = word.address;
+          name = name.name;
+          address = address.address;
           in_ranges = record {
-            small = word.small;
+            small = address.small;
             aligned = eqb-true _ _ front.0;
             order = leb-true _ _ front.1;
-            last = stop.high;
-            first = since.low;
-            since_most = since.high;
-            until_most = until.high;
-            ends = λ some. leb-true _ _ (or_else (eqb pairs.until.value 0) _ ordered.1 (ne_eqb _ _ some));
+            last = last.high;
+            first = begin.low;
+            since_most = begin.high;
+            until_most = end.high;
+            ends = λ some. leb-true _ _ (or_else (eqb until.value 0) _ ordered.1 (ne_eqb _ _ some));
           };
-          is_name = field.is_name;
-          is_address = word.is_address;
+          is_name = name.is_name;
+          is_address = address.is_address;
           is_text = refl;
         };
-        there = all_there text at (line_of pairs) field.name word.address pairs.field.next pairs.word.next pairs.start.next
-            pairs.stop.next pairs.since.next pairs.until.next field.stands word.stands start.stands stop.stands since.stands
-            until.stands;
-        behind = all_long text at (line_of pairs) field.name word.address pairs.field.next pairs.word.next pairs.start.next
-            pairs.stop.next pairs.since.next pairs.until.next field.stands word.stands start.stands stop.stands since.stands
-            until.stands;
+        there = all_there text at l name.name address.address field.next word.next start.next stop.next since.next until.next name.stands
+            address.stands first.stands last.stands begin.stands end.stands;
+        behind = all_long text at l name.name address.address field.next word.next start.next stop.next since.next until.next name.stands
+            address.stands first.stands last.stands begin.stands end.stands;
       }
 
-  pub line_written : (line_at text at).good ≡ true → Stands text at (line_at text at)
-  unfolding line_at parsed_if
-  line_written =
-      of_choice (λ (p : Parsed). p.good ≡ true → Stands text at p) (all_good pairs && in_order (line_of pairs))
-      (λ held good. read_so held)
-      (λ failed good. absurd (true≢false (sym good)))
+  -- pairs that are right together are the line that is read
+  right_so : (l : FieldLine) (next : ℕ) (p : Parsed) → parsed_if l next ≡ Some p → (in_order l ≡ true → Stands text at (record { line = l; next = next }))
+      → Stands text at p
+  unfolding parsed_if
+  right_so l next p =
+      of_choice (λ (o : Option Parsed). o ≡ Some p → (in_order l ≡ true → Stands text at (record { line = l; next = next })) → Stands text at p) (in_order l)
+      (λ held e stands.
+      let is : record { line = l; next = next } ≡ p = cc in
+      subst (Stands text at) is (stands held))
+      (λ failed e stands. cc)
+
+  pub line_written : (p : Parsed) → line_at text at ≡ Some p → Stands text at p
+  unfolding line_at
+  line_written p e =
+      option_and_then_some _ (field_pair text at) p e
+      (λ field f e1.
+      option_and_then_some _ (word_pair text field.next) p e1
+      (λ word w e2.
+      option_and_then_some _ (start_pair text word.next) p e2
+      (λ start s e3.
+      option_and_then_some _ (stop_pair text start.next) p e3
+      (λ stop t e4.
+      option_and_then_some _ (since_pair text stop.next) p e4
+      (λ since i e5.
+      option_and_then_some _ (until_pair text since.next) p e5
+      (λ until u e6.
+      right_so (line_of field word start stop since until) until.next p e6 (read_so field word start stop since until f w s t i u)))))))
 
 -- a line that is written is read
 module _ (text : List ℕ) (at : ℕ) where
-  -- the pairs behind some that are known
-  abbrev after_since : Named → Pair → Pair → Pair → Pair → Pairs
-  after_since field word start stop since =
-      record { field = field; word = word; start = start; stop = stop; since = since; until = until_pair text since.next }
-
-  abbrev after_stop : Named → Pair → Pair → Pair → Pairs
-  after_stop field word start stop = after_since field word start stop (since_pair text stop.next)
-
-  abbrev after_start : Named → Pair → Pair → Pairs
-  after_start field word start = after_stop field word start (stop_pair text start.next)
-
-  abbrev after_word : Named → Pair → Pairs
-  after_word field word = after_start field word (start_pair text word.next)
-
-  abbrev after_field : Named → Pairs
-  after_field field = after_word field (word_pair text field.next)
-
   in-order : (l : FieldLine) → InRanges l → in_order l ≡ true
   unfolding in_order
   in-order l r =
@@ -174,19 +172,9 @@ module _ (text : List ℕ) (at : ℕ) where
     abbrev next_from : ℕ
     next_from = until_from + 6 + length (written l.until) + 1
 
-    abbrev read_pairs : Pairs
-    read_pairs =
-        record {
-          field = record { name = record { good = true; name = l.name }; next = word_from };
-          word = numbered l.word start_from;
-          start = numbered l.start stop_from;
-          stop = numbered l.stop since_from;
-          since = numbered l.since until_from;
-          until = numbered l.until next_from;
-        }
-
-    pairs_are : pairs_at text at ≡ read_pairs
-    pairs_are =
+    line_is : line_at text at ≡ Some (record { line = l; next = next_from })
+    unfolding line_at parsed_if
+    line_is =
         let r = w.in_ranges in
         let field = name_is text at w.name l.name (word_on l w.address after) w.is_name there in
         let word = word_is text word_from w.address l.word (start_on l after) r.small w.is_address field.1 in
@@ -198,28 +186,10 @@ module _ (text : List ℕ) (at : ℕ) where
         stop.1 in
         let until = decimal_is text until_from (bytes_of "until=") 0 9999 (code "\n") (lit≤ tt) l.until after (omega arith) r.until_most (lit< tt)
         since.1 in
-        ap after_field field.0
-        ∙ ap (after_word read_pairs.field) word.0
-        ∙ ap (after_start read_pairs.field read_pairs.word) start.0
-        ∙ ap (after_stop read_pairs.field read_pairs.word read_pairs.start) stop.0
-        ∙ ap (after_since read_pairs.field read_pairs.word read_pairs.start read_pairs.stop) since.0
-        ∙ ap (λ (p : Pair). record {
-          field = read_pairs.field;
-          word = read_pairs.word;
-          start = read_pairs.start;
-          stop = read_pairs.stop;
-          since = read_pairs.since;
-          until = p;
-        }) until.0
-
-    line_is : line_at text at ≡ record { good = true; line = l; next = next_from }
-    unfolding line_at parsed_if
-    line_is =
-        ap (λ (p : Pairs). parsed_if (all_good p) (line_of p) p.until.next) pairs_are
-        ∙ chosen _ _ _ (in-order l w.in_ranges)
+        rw (field.0, word.0, start.0, stop.0, since.0, until.0) (chosen _ _ _ (in-order l w.in_ranges))
 
 pub line_read : (before line after : List ℕ) (l : FieldLine) → WellFormed l line
-    → line_at (before ++ line ++ after) (length before) ≡ record { good = true; line = l; next = length before + length line }
+    → line_at (before ++ line ++ after) (length before) ≡ Some (record { line = l; next = length before + length line })
 line_read before line after l w =
     let text : List ℕ = before ++ line ++ after in
     let there : drop (length before) text ≡ field_on l w.name w.address after =
@@ -228,4 +198,4 @@ line_read before line after l w =
     let next_is : next_from text (length before) l line after w there ≡ length before + length line =
     omega (arith, simp length-append at (ap length w.is_text)) in
     line_is text (length before) l line after w there
-    ∙ ap (λ (n : ℕ). record { good = true; line = l; next = n }) next_is
+    ∙ ap (λ (n : ℕ). Some (record { line = l; next = n })) next_is

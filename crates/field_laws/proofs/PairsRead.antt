@@ -3,7 +3,7 @@
 use Prim.Native.Nat.{ℕ, suc, ◌+◌, ◌-◌, ◌<◌}
 use mathlib.Core.Bool.{true, ◌&&◌}
 use mathlib.Core.List.{List, [], ◌∷◌, ◌++◌}
-use mathlib.Core.Path.{◌≡◌, refl, sym, ap, ap₂, subst₂, ◌∙◌}
+use mathlib.Core.Path.{◌≡◌, refl, sym, ap, ap₂, subst, ◌∙◌}
 use native.Mathlib.Omega.{arith}
 use borrow.Author.Tests.{lt-ltb, le-leb, ltb-true, eqb-true, ne_eqb, eq-eqb}
 use lib.Dec.{eqb, leb, ltb}
@@ -13,7 +13,8 @@ use Rattle.words.specs.rules.Choice.{pick}
 use Rattle.words.proofs.Choice.{chosen, passed, by_test, both}
 use Rattle.field_lines.specs.rules.Pairs.{index_of, stands, closed_at, value_at}
 use Rattle.field_lines.specs.rules.Text.{part, same}
-use Rattle.field_lines.specs.declared.Value.TheVariants.{From, Missing}
+use Rattle.std.specs.Prelude.{Some, None}
+use Rattle.field_lines.specs.declared.Span.{Span}
 use Rattle.field_lines.proofs.SameBytes.{same_equal, same_refl}
 
 -- the byte that was looked for stands where it was found
@@ -73,23 +74,22 @@ module _ (text : List ℕ) (at : ℕ) (key : List ℕ) (close : ℕ) where
         next_is = let v = ap length value_is ∙ length-take-le index (drop from text) (omega arith) in omega arith;
       }
 
-  pub value_read : (first last : ℕ) → value_at text at key close ≡ From first last → PairAt text at key (part text first last) close (last + 1)
+  pub value_read : (v : Span) → value_at text at key close ≡ Some v → PairAt text at key (part text v.from v.to) close (v.to + 1)
   unfolding value_at closed_at
-  value_read first last e =
+  value_read v e =
       by_test (stands text at key && ltb (closed_at text from close) (length text))
       (λ held.
-      let place : From from (from + index) ≡ From first last = sym (chosen _ _ _ held) ∙ e in
+      let place : Some (record { from = from; to = from + index }) ≡ Some v = sym (chosen _ _ _ held) ∙ e in
+      let span : record { from = from; to = from + index } ≡ v = cc in
       let parts = both (stands text at key) _ held in
-      let first-is : from ≡ first = cc in
-      let last_is : from + index ≡ last = cc in
-      subst₂ (λ (f t : ℕ). PairAt text at key (part text f t) close (t + 1)) first-is last_is (read_there parts.0 (ltb-true _ _ parts.1)))
+      subst (λ (u : Span). PairAt text at key (part text u.from u.to) close (u.to + 1)) span (read_there parts.0 (ltb-true _ _ parts.1)))
       (λ failed.
-      let none : Missing ≡ From first last = sym (passed _ _ _ failed) ∙ e in
-      absurd (let z : ◌≡◌ {A = ℕ} 0 1 = cc in omega arith))
+      let none : None ≡ Some v = sym (passed _ _ _ failed) ∙ e in
+      cc)
 
   -- and such a pair is read
   pub record ValueIs (value rest : List ℕ) : Type 0 where
-    pub is : value_at text at key close ≡ From from (from + length value)
+    pub is : value_at text at key close ≡ Some (record { from = from; to = from + length value })
     pub is-part : part text from (from + length value) ≡ value
     pub is_left : drop (from + length value + 1) text ≡ rest
 
@@ -110,7 +110,7 @@ module _ (text : List ℕ) (at : ℕ) (key : List ℕ) (close : ℕ) where
       let width : from + length value - from ≡ length value = omega arith in
       let next-at : from + length value + 1 ≡ from + (length value + 1) = omega arith in
       record {
-        is = chosen _ _ _ (ap₂ ◌&&◌ here (lt-ltb _ _ closed)) ∙ ap (λ (n : ℕ). From from (from + n)) found;
+        is = chosen _ _ _ (ap₂ ◌&&◌ here (lt-ltb _ _ closed)) ∙ ap (λ (n : ℕ). Some (record { from = from; to = from + n })) found;
         is-part = ap₂ take width left ∙ take-append_seam value (close ∷ rest);
         is_left = ap (λ (n : ℕ). drop n text) next-at ∙ sym (drop-drop (length value + 1) from text) ∙ ap (drop (length value + 1)) left
             ∙ drop-append-add value (close ∷ rest) 1;

@@ -1,21 +1,23 @@
 -- A stretch of releases has one answer: a line that answers at its beginning is in force through it, and a line that began within one that has none would end
 -- it.
 use Prim.Native.Nat.{ℕ, zero, suc, ◌-◌, ◌≤◌, ◌<◌}
-use mathlib.Core.Bool.{Bool, true, false, ◌&&◌, ◌||◌, and-false, true≢false}
+use mathlib.Core.Bool.{true, false, ◌&&◌, ◌||◌, and-false, true≢false}
 use mathlib.Core.List.{List, [], ◌∷◌}
 use mathlib.Core.Path.{◌≡◌, refl, sym, ap, ap₂, subst, ◌∙◌}
 use native.Mathlib.Omega.{arith}
 use borrow.Author.Tests.{leb-true, leb-false, le-leb, lt-ltb, ltb-true, ltb-false, eqb-false, ne_eqb}
+use Rattle.std.specs.Prelude.{Option, Some, None}
+use Rattle.std.specs.Option.{option_map_or}
 use lib.Dec.{eqb, leb, ltb}
 use lib.ListN.{length}
 use Rattle.words.proofs.Choice.{chosen, passed, by_test, both, of_choice, neither}
 use Rattle.field_lines.specs.rules.Clashes.{lasts, in_force}
 use Rattle.field_lines.specs.declared.FieldLine.{FieldLine}
-use Rattle.field_register.specs.rules.Questions.{is_about, answers, found, asked, sooner, soonest, last_before, stretch_from}
-use Rattle.field_register.specs.declared.FoundLine.{FoundLine}
+use Rattle.field_register.specs.rules.Questions.{is_about, answers, asked, sooner, soonest, last_before, stretch_from}
 use Rattle.field_register.specs.declared.Subject.{Subject}
 use Rattle.field_laws.specs.claims.Meanings.{register_of, lines_of, nth, StretchMeans}
-use Rattle.field_laws.proofs.Answers.{where_found, none-found, none_at, the_answer_is}
+use Rattle.field_register.proofs.ByLine.{by_answer}
+use Rattle.field_laws.proofs.Answers.{where_found, none_at, the_answer_is}
 use Rattle.field_laws.proofs.Clashing.{or_first, or_second, or_else, in-force, is_in_force, lasts_before}
 
 module _ (s : Subject) (release : ℕ) where
@@ -74,7 +76,7 @@ module _ (s : Subject) (release : ℕ) where
       soonest_line (sooner s release best l) ls (sooner_late best l late) i (omega arith) about later
 
 module _ (text : List ℕ) (s : Subject) (release q : ℕ) (from : release ≤ q) where
-  abbrev now : FoundLine
+  abbrev now : Option FieldLine
   now = asked (register_of text) s release
 
   answers_at : (l : FieldLine) → answers s release l ≡ true → (lasts l q ≡ true) → answers s q l ≡ true
@@ -84,11 +86,10 @@ module _ (text : List ℕ) (s : Subject) (release q : ℕ) (from : release ≤ q
       let f = in-force l release parts.1 in
       ap₂ ◌&&◌ parts.0 (is_in_force l q (omega arith) on)
 
-  line_stays : now.found ≡ true → lasts now.line q ≡ true → asked (register_of text) s q ≡ now
-  line_stays some on =
-      let w = where_found s release (lines_of text) some in
-      the_answer_is text s q w.number w.below (rw w.is (answers_at now.line w.answers_it on))
-      ∙ ap found w.is ∙ sym (ap (λ (t : Bool). record { found = t; line = now.line }) some)
+  line_stays : (l : FieldLine) → now ≡ Some l → lasts l q ≡ true → asked (register_of text) s q ≡ now
+  line_stays l some on =
+      let w = where_found s release (lines_of text) l some in
+      the_answer_is text s q w.number w.below (rw w.is (answers_at l w.answers_it on)) ∙ ap Some w.is ∙ sym some
 
   -- a line that answers later, and did not at the release, begins after it
   began : (l : FieldLine) → answers s release l ≡ false → answers s q l ≡ true → (is_about s l ≡ true) × (release < l.since)
@@ -102,18 +103,17 @@ module _ (text : List ℕ) (s : Subject) (release q : ℕ) (from : release ≤ q
       absurd (true≢false (sym (ap₂ ◌&&◌ parts.0 held) ∙ none)))
       (λ late. (parts.0, leb-false _ _ late))
 
-  none_stays : 1 ≤ release → now.found ≡ false
+  none_stays : 1 ≤ release → now ≡ None
       → ((last_before (soonest s release 0 (lines_of text)) ≡ 0 → ⊥) → q ≤ last_before (soonest s release 0 (lines_of text)))
       → asked (register_of text) s q ≡ now
   unfolding answers last_before
   none_stays first none until =
-      by_test (asked (register_of text) s q).found
-      (λ some.
-      let w = where_found s q (lines_of text) some in
-      let l : FieldLine = (asked (register_of text) s q).line in
+      by_answer (asked (register_of text) s q)
+      (λ l some.
+      let w = where_found s q (lines_of text) l some in
       let silent : answers s release l ≡ false =
       subst (λ (x : FieldLine). answers s release x ≡ false) w.is
-      (none_at s release (lines_of text) (none-found s release (lines_of text) none) w.number w.below) in
+      (none_at s release (lines_of text) none w.number w.below) in
       let b = began l silent w.answers_it in
       let soon = soonest_line s release 0 (lines_of text) (λ some-best. absurd (some-best refl)) w.number w.below
       (rw w.is b.0) (rw w.is b.1) in
@@ -123,22 +123,25 @@ module _ (text : List ℕ) (s : Subject) (release q : ℕ) (from : release ≤ q
       let soon-low : next ≤ l.since = subst (λ (x : FieldLine). next ≤ x.since) w.is soon.low in
       let past : q ≤ last_before next = until (λ none_last. omega (arith, up_to, soon.later)) in
       absurd (omega (arith, up_to, soon.later)))
-      (λ silent. none-found s q (lines_of text) silent ∙ sym (none-found s release (lines_of text) none))
+      (λ silent. silent ∙ sym none)
+
+  -- the last release of an answer
+  abbrev last_of : Option FieldLine → ℕ
+  last_of f = option_map_or (λ (l : FieldLine). l.until) f (last_before (soonest s release 0 (lines_of text)))
 
   one_through : 1 ≤ release → (((stretch_from (register_of text) s release).last ≡ 0 → ⊥) → q ≤ (stretch_from (register_of text) s release).last)
       → asked (register_of text) s q ≡ (stretch_from (register_of text) s release).found
   unfolding stretch_from lasts
   one_through first until =
-      by_test now.found
-      (λ some.
-      let last : (stretch_from (register_of text) s release).last ≡ now.line.until = chosen _ _ _ some in
-      line_stays some
-      (by_test (eqb now.line.until 0) (λ endless. or_first (eqb now.line.until 0) _ endless)
+      by_answer now
+      (λ l some.
+      let last : (stretch_from (register_of text) s release).last ≡ l.until = ap last_of some in
+      line_stays l some
+      (by_test (eqb l.until 0) (λ endless. or_first (eqb l.until 0) _ endless)
       (λ ends.
-      or_second (eqb now.line.until 0) _
-      (le-leb q now.line.until (rw last at (until (λ none_last. eqb-false now.line.until 0 ends (sym last ∙ none_last))))))))
+      or_second (eqb l.until 0) _ (le-leb q l.until (rw last at (until (λ none_last. eqb-false l.until 0 ends (sym last ∙ none_last))))))))
       (λ none.
-      let last : (stretch_from (register_of text) s release).last ≡ last_before (soonest s release 0 (lines_of text)) = passed _ _ _ none in
+      let last : (stretch_from (register_of text) s release).last ≡ last_before (soonest s release 0 (lines_of text)) = ap last_of none in
       none_stays first none (λ some-last. rw last at (until (λ none_last. some-last (sym last ∙ none_last)))))
 
 pub stretch_means : StretchMeans

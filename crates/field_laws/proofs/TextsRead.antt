@@ -1,10 +1,11 @@
 -- A text is its lines, one behind the other: line by line, what is read is written there, and what is written there is read while it clashes with none before.
 use Prim.Native.Nat.{ℕ, zero, suc, ◌+◌, ◌≤◌, ◌<◌}
-use mathlib.Core.Bool.{true, false, not, ◌||◌}
+use mathlib.Core.Bool.{true, false, ◌||◌}
 use mathlib.Core.List.{List, [], ◌∷◌, ◌++◌, append_assoc, append-nil}
 use mathlib.Core.Path.{◌≡◌, refl, sym, ap, ap₂, subst, ◌∙◌}
 use native.Mathlib.Omega.{arith}
-use borrow.Author.Tests.{leb-true, le-leb, lt-leb, not-false}
+use borrow.Author.Tests.{leb-true, le-leb, lt-leb}
+use Rattle.std.specs.Prelude.{Some, IsOk}
 use lib.Dec.{leb}
 use lib.ListN.{length, drop, drop_of_length-le, length-append, get_or-append}
 use lib.Seq.{append_snoc, get_or-append_seam}
@@ -12,12 +13,11 @@ use Rattle.words.proofs.Choice.{chosen, passed, of_choice}
 use Rattle.field_lines.specs.rules.Clashes.{clash}
 use Rattle.field_lines.specs.rules.Lines.{no_line, line_at}
 use Rattle.field_lines.specs.declared.FieldLine.{FieldLine}
-use Rattle.field_lines.specs.declared.Parsed.{Parsed}
-use Rattle.field_register.specs.rules.Reading.{lines_in, read_as, refused_at, clashes, read_from}
-use Rattle.field_register.specs.declared.Reading.{Reading}
+use Rattle.field_register.proofs.ByLine.{by_line}
+use Rattle.field_register.specs.rules.Reading.{Reading, lines_in, read_as, refused_at, clashes, read_from}
 use Rattle.field_register.specs.declared.FieldRefusal.{FieldRefusal}
-use Rattle.field_register.specs.declared.FieldRefusal.TheVariants.{None, Malformed, Clash}
-use Rattle.field_laws.specs.claims.Meanings.{nth}
+use Rattle.field_register.specs.declared.FieldRefusal.TheVariants.{Malformed, Clash}
+use Rattle.field_laws.specs.claims.Meanings.{nth, register_in}
 use Rattle.field_laws.specs.claims.WellFormed.{TextOf, none, more, ReadsWellFormed}
 use Rattle.field_laws.proofs.Kept.{lines_kept}
 use Rattle.field_laws.proofs.LinesRead.{line_written, line_read}
@@ -25,11 +25,11 @@ use Rattle.field_laws.proofs.LinesRead.{line_written, line_read}
 -- the lines that were read from a place on, behind others
 record ReadOn (ls : List FieldLine) (rest : List ℕ) (q : Reading) : Type 0 where
   pub lines : List FieldLine
-  pub kept_so : lines_in q.register ≡ ls ++ lines
+  pub kept_so : lines_in (register_in q) ≡ ls ++ lines
   pub text_of : TextOf lines rest
 
 abbrev Reads : List FieldLine → List ℕ → Reading → Type 0
-Reads ls rest q = q.refusal ≡ None → ReadOn ls rest q
+Reads ls rest q = IsOk q → ReadOn ls rest q
 
 -- none where the text is at its end
 at-end : (ls : List FieldLine) (text : List ℕ) (at : ℕ) → leb (length text) at ≡ true → Reads ls (drop at text) (read_as ls)
@@ -40,28 +40,21 @@ at-end ls text at e good =
       text_of = rw (drop_of_length-le text (leb-true _ _ e)) none;
     }
 
-refused_none : (ls : List FieldLine) (rest : List ℕ) (q : FieldRefusal) (n : ℕ) → (q ≡ None → ⊥) → Reads ls rest (refused_at q n)
-refused_none ls rest q n never good = absurd (never good)
-
-malformed_none : Malformed ≡ None → ⊥
-malformed_none e = let z : ◌≡◌ {A = ℕ} 0 1 = cc in omega arith
-
-clash_none : Clash ≡ None → ⊥
-clash_none e = let z : ◌≡◌ {A = ℕ} 0 1 = cc in omega arith
+refused_none : (ls : List FieldLine) (rest : List ℕ) (q : FieldRefusal) (n : ℕ) → Reads ls rest (refused_at q n)
+refused_none ls rest q n good = cc
 
 read_on : (allowed : ℕ) (ls : List FieldLine) (text : List ℕ) (at : ℕ) → Reads ls (drop at text) (read_from allowed ls text at)
 unfolding read_from
 read_on zero ls text at =
-    of_choice (Reads ls (drop at text)) (leb (length text) at) (at-end ls text at) (λ further. refused_none ls (drop at text) Malformed _ malformed_none)
+    of_choice (Reads ls (drop at text)) (leb (length text) at) (at-end ls text at) (λ further. refused_none ls (drop at text) Malformed _)
 read_on (suc allowed) ls text at =
     of_choice (Reads ls (drop at text)) (leb (length text) at) (at-end ls text at)
     (λ further.
-    of_choice (Reads ls (drop at text)) (not (line_at text at).good) (λ bad. refused_none ls (drop at text) Malformed _ malformed_none)
-    (λ right.
-    of_choice (Reads ls (drop at text)) (clashes ls (line_at text at).line) (λ clashing. refused_none ls (drop at text) Clash _ clash_none)
+    by_line (Reads ls (drop at text)) (line_at text at) _ (λ bad. refused_none ls (drop at text) Malformed _)
+    (λ p there.
+    of_choice (Reads ls (drop at text)) (clashes ls p.line) (λ clashing. refused_none ls (drop at text) Clash _)
     (λ free good.
-    let p : Parsed = line_at text at in
-    let here = line_written text at (not-false _ right) in
+    let here = line_written text at p there in
     let rest = read_on allowed (ls ++ p.line ∷ []) text p.next good in
     record {
       lines = p.line ∷ rest.lines;
@@ -70,21 +63,21 @@ read_on (suc allowed) ls text at =
     })))
 
 -- as many as are allowed
-few_on : (allowed : ℕ) (ls : List FieldLine) (text : List ℕ) (at : ℕ) → length (lines_in (read_from allowed ls text at).register) ≤ length ls + allowed
+few_on : (allowed : ℕ) (ls : List FieldLine) (text : List ℕ) (at : ℕ) → length (lines_in (register_in (read_from allowed ls text at))) ≤ length ls + allowed
 unfolding read_from
 few_on zero ls text at =
-    of_choice (λ (q : Reading). length (lines_in q.register) ≤ length ls + 0) (leb (length text) at) (λ e. rw (lines_kept ls) (omega arith))
+    of_choice (λ (q : Reading). length (lines_in (register_in q)) ≤ length ls + 0) (leb (length text) at) (λ e. rw (lines_kept ls) (omega arith))
     (λ e. rw (lines_kept []) (omega arith))
 few_on (suc allowed) ls text at =
-    of_choice (λ (q : Reading). length (lines_in q.register) ≤ length ls + suc allowed) (leb (length text) at) (λ e. rw (lines_kept ls) (omega arith))
+    of_choice (λ (q : Reading). length (lines_in (register_in q)) ≤ length ls + suc allowed) (leb (length text) at) (λ e. rw (lines_kept ls) (omega arith))
     (λ e.
-    of_choice (λ (q : Reading). length (lines_in q.register) ≤ length ls + suc allowed) (not (line_at text at).good) (λ bad. rw (lines_kept []) (omega arith))
-    (λ right.
-    of_choice (λ (q : Reading). length (lines_in q.register) ≤ length ls + suc allowed) (clashes ls (line_at text at).line)
+    by_line (λ (q : Reading). length (lines_in (register_in q)) ≤ length ls + suc allowed) (line_at text at) _ (λ bad. rw (lines_kept []) (omega arith))
+    (λ p there.
+    of_choice (λ (q : Reading). length (lines_in (register_in q)) ≤ length ls + suc allowed) (clashes ls p.line)
     (λ clashing. rw (lines_kept []) (omega arith))
     (λ free.
-    let rest = few_on allowed (ls ++ (line_at text at).line ∷ []) text (line_at text at).next in
-    omega (arith, length-append ls ((line_at text at).line ∷ [])))))
+    let rest = few_on allowed (ls ++ p.line ∷ []) text p.next in
+    omega (arith, length-append ls (p.line ∷ [])))))
 
 -- no two clash
 abbrev Apart : List FieldLine → Type 0
@@ -111,14 +104,12 @@ end_read zero done text at h = chosen _ _ _ (le-leb _ _ h)
 end_read (suc allowed) done text at h = chosen _ _ _ (le-leb _ _ h)
 
 line_more : (allowed : ℕ) (done : List FieldLine) (text : List ℕ) (at : ℕ) (l : FieldLine) (next : ℕ) → at < length text
-    → line_at text at ≡ record { good = true; line = l; next = next } → clashes done l ≡ false
+    → line_at text at ≡ Some (record { line = l; next = next }) → clashes done l ≡ false
     → read_from (suc allowed) done text at ≡ read_from allowed (done ++ l ∷ []) text next
 unfolding read_from
 line_more allowed done text at l next h e free =
     passed _ _ _ (lt-leb _ _ h)
-    ∙ passed _ _ _ (ap (λ (p : Parsed). not p.good) e)
-    ∙ passed _ _ _ (ap (λ (p : Parsed). clashes done p.line) e ∙ free)
-    ∙ ap (λ (p : Parsed). read_from allowed (done ++ p.line ∷ []) text p.next) e
+    ∙ rw e (passed _ _ _ free)
 
 reads : (allowed : ℕ) (done : List FieldLine) (before : List ℕ) {ls : List FieldLine} {text : List ℕ} → TextOf ls text → length ls ≤ allowed
     → Apart (done ++ ls) → read_from allowed done (before ++ text) (length before) ≡ read_as (done ++ ls)

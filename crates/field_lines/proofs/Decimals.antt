@@ -8,7 +8,7 @@ use borrow.Author.Tests.{lt-ltb, eq-eqb, eqb-true, ltb-true, leb-true, le-leb, n
 use lib.ListN.{length}
 use Rattle.words.proofs.Choice.{by_test, both}
 use Rattle.digits.specs.rules.Numbers.{are_digits, number_of, number_up_to}
-use Rattle.digits.specs.declared.Number.TheVariants.{Is, Wrong}
+use Rattle.std.specs.Prelude.{Some, None}
 use Rattle.digits.proofs.Numbers.{number_lt}
 use Rattle.digits.proofs.Reading.{number_held, number_refuted, made, not_made}
 use Rattle.field_lines.specs.rules.Text.{between, zero_leads, is_decimal, decimal_of, is_address, address_of}
@@ -41,27 +41,27 @@ module _ (s : List ℕ) (least most : ℕ) where
         high = leb-true _ _ range.1;
       }
 
-  pub decimal_zero : zero_leads s ≡ true → Wrong ≡ decimal_of least most s
+  pub decimal_zero : zero_leads s ≡ true → None ≡ decimal_of least most s
   decimal_zero e = number_refuted fitting _ (λ held. true≢false (sym e ∙ (fits held).leads))
 
-  pub decimal_wrong : Wrong ≡ number_up_to 10 most s → Wrong ≡ decimal_of least most s
+  pub decimal_wrong : None ≡ number_up_to 10 most s → None ≡ decimal_of least most s
   decimal_wrong e = number_refuted fitting _ (λ held. let f = fits held in not_made 10 most s e f.some f.digits f.high)
 
-  pub decimal_low : (n : ℕ) → Is n ≡ number_up_to 10 most s → n < least → Wrong ≡ decimal_of least most s
+  pub decimal_low : (n : ℕ) → Some n ≡ number_up_to 10 most s → n < least → None ≡ decimal_of least most s
   decimal_low n e h =
       number_refuted fitting _ (λ held. let f = fits held in let m = made 10 most s n e in omega arith)
 
-  pub decimal_is : (n : ℕ) → Is n ≡ number_up_to 10 most s → zero_leads s ≡ false → least ≤ n
-      → Is n ≡ decimal_of least most s
+  pub decimal_is : (n : ℕ) → Some n ≡ number_up_to 10 most s → zero_leads s ≡ false → least ≤ n
+      → Some n ≡ decimal_of least most s
   unfolding is_decimal
   decimal_is n e leads low =
       let m = made 10 most s n e in
-      ap Is (sym m.is)
+      ap Some (sym m.is)
       ∙ number_held fitting _
       (ap₂ ◌&&◌ (ap₂ ◌&&◌ (ap₂ ◌&&◌ (lt-ltb _ _ m.some) m.digits) (ap not leads)) (within least most _ (omega arith) m.small))
 
 module _ (s : List ℕ) where
-  pub address_short : (length s ≡ 8 → ⊥) → Wrong ≡ address_of s
+  pub address_short : (length s ≡ 8 → ⊥) → None ≡ address_of s
   unfolding is_address
   address_short never = number_refuted _ _ (λ held. never (eqb-true _ _ (both _ _ held).0))
 

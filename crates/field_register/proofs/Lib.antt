@@ -1,6 +1,4 @@
 pub mod Bounds
-pub mod FirstReleases
-pub mod LinesLeft
-pub mod Making
+pub mod ByLine
+pub mod Lines
 pub mod ReadingOn
-pub mod Stretches

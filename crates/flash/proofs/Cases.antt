@@ -7,14 +7,14 @@ use native.Mathlib.Omega.{arith}
 use lib.Dec.{eqb}
 use lib.ListN.{length}
 use borrow.Author.Tests.{eq-eqb, ne_eqb}
+use Rattle.std.specs.declared.result.Result.TheVariants.{Ok}
 use Rattle.words.specs.rules.Bytes.{word_at}
 use Rattle.words.proofs.Choice.{chosen, passed}
 use Rattle.windows.specs.rules.Window.{sum_of}
-use Rattle.opcodes.specs.rules.Opcodes.{looked_up}
+use Rattle.opcodes.specs.rules.Opcodes.{looked_up, with_words}
 use Rattle.opcodes.specs.declared.Command.{Command}
-use Rattle.opcodes.specs.declared.Found.TheVariants.{Known}
 use Rattle.opcodes.specs.declared.Mode.TheVariants.{Flash}
-use Rattle.opcodes.specs.declared.Refusal.TheVariants as refusal
+use Rattle.opcodes.specs.rules.Refusals as refusal
 use Rattle.ledger.specs.rules.Totals.{is_spent}
 use Rattle.reading.specs.rules.Reading.{present, past_words, data_words, read_at}
 use Rattle.reading.proofs.Reading.{read_row, row_whole}
@@ -61,7 +61,7 @@ module _ (s : Session) (m image : List ℕ) where
         call_read = passed _ _ _ running ∙ passed _ _ _ (ap not (eq-eqb _ _ lent)) ∙ passed _ _ _ (ap not sound)
 
         -- a row that is found, its command's words there
-        pub call_whole : (c : Command) (words : ℕ) → looked_up (word_at image s.offset) Flash s.dialect ≡ Known c words
+        pub call_whole : (c : Command) (words : ℕ) → looked_up (word_at image s.offset) Flash s.dialect ≡ Ok (with_words c words)
             → past_words s.offset words ≤ length image
             → step_of s m image ≡ performed c (past_words s.offset words) (fetching (1 + words) s) m image
         call_whole c words known there =

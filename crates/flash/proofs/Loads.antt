@@ -7,12 +7,11 @@ use native.Mathlib.Omega.{arith}
 use borrow.Author.Tests.{not-false}
 use Rattle.words.proofs.Choice.{of_choice}
 use Rattle.opcodes.specs.declared.Command.TheVariants.{Load}
-use Rattle.opcodes.specs.declared.Refusal.TheVariants as refusal
+use Rattle.opcodes.specs.rules.Refusals as refusal
 use Rattle.ledger.specs.rules.Totals.{would_pass}
 use Rattle.reading.specs.rules.Reading.{past_words, argument}
 use Rattle.reading.proofs.Reading.{are_there}
-use Rattle.commands.specs.rules.Commands.{judged_code}
-use Rattle.commands.specs.declared.Judged.{Judged}
+use Rattle.commands.specs.rules.Commands.{judged_code, Judged}
 use Rattle.flash_commands.specs.claims.Commands.{Ready, gone}
 use Rattle.flash_commands.specs.claims.Ways.{data_words_of, Call}
 use Rattle.flash_session.specs.rules.Sessions.{CallOutcome}

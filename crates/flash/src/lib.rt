@@ -5,11 +5,9 @@ ghost use Rattle.std.specs.Prelude.{◌≡◌, ◌+◌, ◌*◌, ◌^◌, ◌≤
 ghost use Rattle.reading.specs.rules.Reading.{data_words};
 ghost use Rattle.flash.specs.rules.Step.{load_answer, load_at, load_of, performed, step_of};
 
-use commands::Judged;
 use flash_session::{Called, Session, answers};
 use ledger::Happening;
 use opcodes::{Command, Event, Refusal};
-use reading::Read;
 
 // One command.
 pub fn step(session: Session, memory: &mut [u8], image: &[u8]) -> Called
@@ -26,19 +24,12 @@ pub fn step(session: Session, memory: &mut [u8], image: &[u8]) -> Called
     if !flash_session::is_image(image.len(), session.length as usize) {
         return answers::keep(Refusal::Image, session);
     }
-    let dialect = session.dialect;
-    let read = reading::read_at(image, session.offset, dialect);
-    match read {
-        Read::Refused(refusal, fetched) => answers::halt(refusal, answers::fetch(session, fetched)),
-        Read::Whole(command, words) => {
-            let next = session.offset + 4 * (1 + words);
-            perform(
-                command,
-                next,
-                answers::fetch(session, 1 + words),
-                memory,
-                image,
-            )
+    match reading::read_at(image, session.offset, session.dialect) {
+        Err(why) => answers::halt(why.refusal, answers::fetch(session, why.fetched)),
+        Ok(known) => {
+            let next = session.offset + 4 * (1 + known.words);
+            let fetched = answers::fetch(session, 1 + known.words);
+            perform(known.command, next, fetched, memory, image)
         }
     }
 }
@@ -51,7 +42,7 @@ fn load_answer(session: Session, next: u32, checksum: u32, size: u32, place: usi
     let words = reading::data_words(size);
     let offset = next + 4 * words;
     let totals = session.totals;
-    let wrote = commands::wrote_bytes(Judged::Granted(place), size, totals.next);
+    let wrote = commands::wrote_bytes(Ok(place), size, totals.next);
     let past = answers::moved(answers::fetch(session, words), checksum, offset);
     answers::proceed(
         session,
@@ -115,8 +106,8 @@ fn load(
     let granted = commands::judge_load(windows, address, size);
     let judged = flash_commands::overflow(dialect, totals, size, granted);
     match judged {
-        Judged::Granted(place) => load_at(session, memory, image, next, address, size, place),
-        Judged::Refused(refusal) => answers::halt(refusal, session),
+        Ok(place) => load_at(session, memory, image, next, address, size, place),
+        Err(refusal) => answers::halt(refusal, session),
     }
 }
 

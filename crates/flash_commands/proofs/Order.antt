@@ -1,16 +1,15 @@
 -- The order of a close's numbers: an answer has the number of its judgement, and a judgement that was refused is kept by what comes after it.
+use Rattle.opcodes.specs.declared.Refusal.{Refusal}
 use Prim.Native.Nat.{ℕ, ◌<◌}
 use mathlib.Core.Bool.{Bool, true}
 use mathlib.Core.Path.{◌≡◌, refl, sym, ap, ◌∙◌}
 use native.Mathlib.Omega.{arith}
 use borrow.Author.Tests.{eqb-true}
 use Rattle.words.proofs.Choice.{chosen, of_choice}
-use Rattle.opcodes.specs.rules.Answers.{accepted, code_of}
-use Rattle.opcodes.specs.declared.Refusal.{Refusal}
+use Rattle.opcodes.specs.rules.Answers.{accepted, code_of, number_of}
 use Rattle.ledger.specs.declared.Happening.{Happening}
-use Rattle.commands.specs.rules.Commands.{judged_code, barred}
+use Rattle.commands.specs.rules.Commands.{judged_code, barred, Judged}
 use Rattle.commands.specs.declared.Done.{Done}
-use Rattle.commands.specs.declared.Judged.{Judged}
 use Rattle.commands.specs.declared.Wrote.{Wrote}
 use Rattle.flash_session.specs.rules.Sessions.{go_to, stopped, accepted_as, after}
 use Rattle.flash_session.specs.declared.Called.{Called}
@@ -32,7 +31,7 @@ refused_stays : (test : Bool) (q : Refusal) {j : Judged} {n : ℕ} → Judges j 
 refused_stays test q grants some e = absurd (omega arith)
 refused_stays test q (denies wrong) some e = e
 
-granted_barred : (q : Refusal) {test : Bool} {j : Judged} → Judges j → judged_code j ≡ 0 → test ≡ true → judged_code (barred test q j) ≡ code_of q
+granted_barred : (q : Refusal) {test : Bool} {j : Judged} → Judges j → judged_code j ≡ 0 → test ≡ true → judged_code (barred test q j) ≡ number_of q
 granted_barred q grants e holds = ap judged_code (chosen _ _ _ holds)
 granted_barred q (denies wrong) e holds = absurd (wrong.refused e)
 

@@ -9,28 +9,28 @@ use native.Mathlib.Omega.{arith}
 use lib.Dec.{eqb}
 use lib.ListN.{length}
 use borrow.Author.Tests.{leb-false, eq-eqb, ne_eqb}
+use Rattle.std.specs.declared.result.Result.{Result}
 use Rattle.words.specs.rules.Bytes.{word_at}
 use Rattle.words.specs.rules.Choice.{pick}
 use Rattle.words.proofs.Choice.{chosen, passed, of_choice}
-use Rattle.opcodes.specs.rules.Answers.{code_of, kind_of}
+use Rattle.opcodes.specs.rules.Answers.{code_of, kind_of, accepted}
 use Rattle.opcodes.specs.rules.Opcodes.{looked_up}
 use Rattle.opcodes.specs.declared.Command.{Command}
 use Rattle.opcodes.specs.declared.Command.TheVariants as command
 use Rattle.opcodes.specs.declared.Event.{Event}
-use Rattle.opcodes.specs.declared.Found.{Found}
 use Rattle.opcodes.specs.declared.Mode.TheVariants.{Flash}
+use Rattle.opcodes.specs.rules.Refusals.{Verdict}
+use Rattle.opcodes.specs.rules.Refusals as refusal
 use Rattle.opcodes.specs.declared.Refusal.{Refusal}
-use Rattle.opcodes.specs.declared.Refusal.TheVariants as refusal
+use Rattle.opcodes.specs.declared.Known.{Known}
 use Rattle.ledger.specs.claims.Booked.{Room}
 use Rattle.ledger.specs.rules.Totals.{differs, is_spent}
 use Rattle.ledger.specs.declared.Happening.{Happening}
 use Rattle.ledger.specs.declared.Happening.TheVariants as happened
 use Rattle.ledger.specs.declared.Totals.{Totals}
 use Rattle.reading.specs.rules.Reading.{words_from, argument}
-use Rattle.commands.specs.rules.Commands.{judged_code}
+use Rattle.commands.specs.rules.Commands.{judged_code, Judged, Sought}
 use Rattle.commands.specs.declared.Done.{Done}
-use Rattle.commands.specs.declared.Judged.{Judged}
-use Rattle.commands.specs.declared.Sought.{Sought}
 use Rattle.commands.specs.rules.Wrote.{none_wrote}
 use Rattle.commands.specs.declared.Wrote.{Wrote}
 use Rattle.flash_commands.specs.claims.Ways.{data_words_of, named, happening, argument_words, met, Reads, spares, Way, forward, back, kept, Call}
@@ -53,7 +53,7 @@ unfolding counted_on
 counted_both fetched first second = omega arith
 
 -- a refusal that ends the session is not 14
-pub not_over : (q : Refusal) → spares q ≡ false → eqb (code_of q) 14 ≡ false
+pub not_over : (q : Verdict) → spares q ≡ false → eqb (code_of q) 14 ≡ false
 not_over q = last (eqb (code_of q) 2 || eqb (code_of q) 3) (eqb (code_of q) 14)
   where
     last : (a b : Bool) → (a || b) ≡ false → b ≡ false
@@ -62,7 +62,7 @@ not_over q = last (eqb (code_of q) 2 || eqb (code_of q) 3) (eqb (code_of q) 14)
 
 module _ (s : Session) (image : List ℕ) where
   -- an answer with what a call may change of the session
-  answered : {q : Refusal} {told : Event} {at : ℕ} {over switch : Bool} {checksum offset retries fetched : ℕ} {totals : Totals} {wrote : Wrote}
+  answered : {q : Verdict} {told : Event} {at : ℕ} {over switch : Bool} {checksum offset retries fetched : ℕ} {totals : Totals} {wrote : Wrote}
       → Way s image (record { refusal = q; event = told; at = at; session = changed s over switch checksum offset retries fetched totals; wrote = wrote })
       → eqb (code_of q) 14 ≡ s.ended → at ≡ pick (spares q) 0 s.offset
       → Call s image (record { refusal = q; event = told; at = at; session = changed s over switch checksum offset retries fetched totals; wrote = wrote })
@@ -70,7 +70,7 @@ module _ (s : Session) (image : List ℕ) where
       record { way = way; same_windows = refl; same_length = refl; same_limit = refl; same_dialect = refl; over = over; at = at }
 
   -- refused, the session spared
-  pub spared : (q : Refusal) → spares q ≡ true → code_of q ≢ 0 → eqb (code_of q) 14 ≡ s.ended → Call s image (unchanged q s)
+  pub spared : (q : Verdict) → spares q ≡ true → code_of q ≢ 0 → eqb (code_of q) 14 ≡ s.ended → Call s image (unchanged q s)
   spared q spare low over =
       answered
       (kept
@@ -91,7 +91,7 @@ module _ (s : Session) (image : List ℕ) where
   unfolding met words_from
   met_none h = omega arith
 
-  pub met_found : {found : Found} → looked_up (word_at image s.offset) Flash s.dialect ≡ found
+  pub met_found : {found : Result Known Refusal} → looked_up (word_at image s.offset) Flash s.dialect ≡ found
       → met s image ≡ min (1 + argument_words found) (words_from image s.offset)
   unfolding met
   met_found e = rw e
@@ -102,7 +102,7 @@ module _ (s : Session) (image : List ℕ) where
 
   module _ (standing : s.ended ≡ false) where
     -- refused, the session ended
-    pub stops : (q : Refusal) {switch : Bool} {checksum fetched : ℕ} → Ending q → fetched ≡ counted_on s.fetched (met s image)
+    pub stops : (q : Verdict) {switch : Bool} {checksum fetched : ℕ} → Ending q → fetched ≡ counted_on s.fetched (met s image)
         → Call s image (stopped q (changed s s.ended switch checksum s.offset s.retries fetched s.totals))
     stops q e all =
         answered
@@ -155,7 +155,7 @@ module _ (s : Session) (image : List ℕ) where
       fetched = fetching n s
 
       -- refused it has fetched these
-      pub denied : (q : Refusal) {switch : Bool} {checksum : ℕ} → Ending q
+      pub denied : (q : Verdict) {switch : Bool} {checksum : ℕ} → Ending q
           → Call s image (stopped q (changed fetched s.ended switch checksum s.offset s.retries fetched.fetched s.totals))
       denied q e = stops q e (ap (counted_on s.fetched) (sym whole))
 

@@ -8,7 +8,7 @@ ghost use Rattle.commands.specs.rules.Wrote.{none_wrote};
 ghost use Rattle.flash_session.specs.rules.Sessions.{go_to, switch_on, switch_off, accepted_as};
 ghost use Rattle.flash_commands.specs.rules.Commands.{fill_of, setting_of, sought_as, requested, closed};
 
-use commands::{Judged, Sought};
+use commands::Judged;
 use flash_session::{Called, Session, answers};
 use ledger::{Bytes, Happening, Sections, Standing, Totals};
 use opcodes::{Dialect, Event, Refusal};
@@ -117,19 +117,18 @@ fn retry(session: Session, seek: u32) -> Called
 {
     let led = commands::seek(session.offset, seek);
     match led {
-        Sought::To(offset) => {
+        Ok(offset) => {
             let mut back = answers::moved(session, 0, offset);
             back.retries = session.retries + 1;
             let wrote = commands::wrote_none();
             answers::proceed(session, Happening::Retried, wrote, Event::Nothing, back)
         }
-        Sought::Refused(refusal) => {
-            answers::halt(refusal, answers::moved(session, 0, session.offset))
-        }
+        Err(refusal) => { answers::halt(refusal, answers::moved(session, 0, session.offset)) }
     }
 }
 
 // Request: compares the checksum, which becomes 0 either way.
+#[tactic(auto, unfolding(crate::specs::rules::Commands::requested, words::specs::rules::Choice::pick))]
 pub fn request(session: Session, next: u32, expected: u32, seek: u32) -> Called
     ensures { result ≡ requested session next expected seek }
 {

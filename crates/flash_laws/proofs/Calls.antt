@@ -6,15 +6,17 @@ use mathlib.Core.Path.{◌≡◌, refl, sym, ap, ◌∙◌}
 use native.Mathlib.Omega.{arith}
 use lib.ListN.{length}
 use borrow.Author.Tests.{eqb-true, not-false}
+use Rattle.std.specs.declared.result.Result.{Result}
 use Rattle.words.proofs.Choice.{both, of_choice}
 use Rattle.opcodes.specs.declared.Command.{Command}
 use Rattle.opcodes.specs.declared.Command.TheVariants as command
 use Rattle.opcodes.specs.declared.Mode.TheVariants.{Flash}
-use Rattle.opcodes.specs.declared.Refusal.TheVariants as refusal
+use Rattle.opcodes.specs.rules.Refusals as refusal
 use Rattle.opcodes.proofs.Counts.{row_is, row-is}
+use Rattle.opcodes.specs.declared.Known.{Known}
 use Rattle.reading.specs.rules.Reading.{words_from, past_words}
-use Rattle.reading.specs.declared.Read.{Read}
 use Rattle.reading.proofs.Reading.{Reads as ReadsAs, no_opcode, unknown, retired, cut_short, whole, reads as how-read}
+use Rattle.reading.specs.declared.Unread.{Unread}
 use Rattle.flash_commands.specs.claims.Ways.{Call}
 use Rattle.flash_commands.specs.claims.Commands.{Ready}
 use Rattle.flash_laws.specs.claims.Calls.{EveryCall}
@@ -46,7 +48,7 @@ module _ (s : Session) (m image : List ℕ) where
   performed_call command.Ping n row ready = absurd (true≢false (sym row))
   performed_call command.SequentialRead n row ready = (every_command s m image n).pass_over ready
 
-  followed_call : {r : Read} → s.ended ≡ false → length image ≡ s.length → ReadsAs image s.offset s.dialect r → Answered (followed s m image r)
+  followed_call : {r : Result Known Unread} → s.ended ≡ false → length image ≡ s.length → ReadsAs image s.offset s.dialect r → Answered (followed s m image r)
   unfolding words_from
   followed_call standing same (no_opcode short) =
       stops s image standing refusal.Missing (ends refusal.Missing refl) (ap (counted_on s.fetched) (sym (met_none s image short)))

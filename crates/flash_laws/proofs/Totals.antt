@@ -1,11 +1,14 @@
 -- The totals since an opening, by the law of a call: a call that goes forward counts a load or a fill in whole numbers and nothing else, one that goes back
 -- counts a retry, and one that is refused keeps them. In AM17xx each part of the rules gives the same, whatever the totals are.
+use Rattle.std.specs.Prelude.{Ok, Err}
 use Prim.Native.Nat.{ℕ, ◌+◌, ◌≤◌}
 use mathlib.Core.Bool.{Bool, true, false}
 use mathlib.Core.List.{List, [], ◌∷◌}
 use mathlib.Core.Path.{◌≡◌, refl, sym, ap, subst, ◌∙◌}
 use native.Mathlib.Omega.{arith}
 use borrow.Author.Tests.{eq-eqb, ne_eqb}
+use Rattle.std.specs.declared.result.Result.{Result}
+use Rattle.std.specs.declared.result.Result.TheVariants.{Ok, Err}
 use Rattle.words.specs.rules.Choice.{pick}
 use Rattle.words.proofs.Choice.{chosen, passed, of_choice}
 use Rattle.windows.specs.declared.Window.{Window}
@@ -14,7 +17,8 @@ use Rattle.opcodes.specs.declared.Command.{Command}
 use Rattle.opcodes.specs.declared.Command.TheVariants as command
 use Rattle.opcodes.specs.declared.Dialect.{Dialect}
 use Rattle.opcodes.specs.declared.Dialect.TheVariants.{Am17xx, Dm648}
-use Rattle.opcodes.specs.declared.Found.{Found}
+use Rattle.opcodes.specs.declared.Known.{Known}
+use Rattle.opcodes.specs.declared.Refusal.{Refusal}
 use Rattle.ledger.specs.claims.Agreement.{plus, Zero}
 use Rattle.ledger.specs.claims.Booked.{Room}
 use Rattle.ledger.specs.rules.Totals.{nothing, at_opening, would_pass, differs, numbered_as, in_flash}
@@ -24,14 +28,9 @@ use Rattle.ledger.specs.declared.Standing.{Standing}
 use Rattle.ledger.specs.declared.Totals.{Totals}
 use Rattle.ledger.proofs.Laws.{names_them, plus_none, plus_more, plus_one}
 use Rattle.reading.specs.rules.Reading.{past_words, argument, read_at}
-use Rattle.reading.specs.declared.Read.{Read}
-use Rattle.reading.specs.declared.Read.TheVariants as read
-use Rattle.commands.specs.rules.Commands.{load_judged, sought_from}
+use Rattle.reading.specs.declared.Unread.{Unread}
+use Rattle.commands.specs.rules.Commands.{load_judged, sought_from, Judged, Sought}
 use Rattle.commands.specs.declared.Done.{Done}
-use Rattle.commands.specs.declared.Judged.{Judged}
-use Rattle.commands.specs.declared.Judged.TheVariants.{Granted, Refused}
-use Rattle.commands.specs.declared.Sought.{Sought}
-use Rattle.commands.specs.declared.Sought.TheVariants as sought
 use Rattle.commands.specs.declared.Wrote.{Wrote}
 use Rattle.flash_commands.specs.claims.Ways.{named, happening, Way, forward, back, kept, Call}
 use Rattle.flash_session.specs.rules.Opening.{opened_by}
@@ -97,7 +96,7 @@ module _ (s : Session) (lent : Lent) where
           ap (λ (t : Totals). t.now) f.totals
           ∙ command_stands s size dialect f.command f.fits
           ∙ ap (plus s.totals.now)
-          (sym (chosen _ _ _ (eq-eqb _ _ (ap code_of f.accepted)) ∙ ap (λ (found : Found). sizes_found found size) f.reads.row))
+          (sym (chosen _ _ _ (eq-eqb _ _ (ap code_of f.accepted)) ∙ ap (λ (found : Result Known Refusal). sizes_found found size) f.reads.row))
       go (back b) = absurd (omega (arith, b.counted))
       go (kept k) =
           ap (λ (t : Totals). t.now) k.totals ∙ plus_none s.totals.now
@@ -247,14 +246,14 @@ module _ (m image : List ℕ) (first second numbers : Totals) where
     load_alike : (next address size : ℕ) (judged : Judged)
         → Alike (load_judged_as (with_none s t) m image next address size judged) (load_judged_as (with_none s u) m image next address size judged)
     unfolding load_at
-    load_alike next address size (Granted place) =
+    load_alike next address size (Ok place) =
         alike_choice _ (record { answer = record { told = refl }; memory = refl })
         (alike_choice _ (record { answer = record { told = refl }; memory = refl }) (record { answer = record { told = refl }; memory = refl }))
-    load_alike next address size (Refused q) = record { answer = record { told = refl }; memory = refl }
+    load_alike next address size (Err q) = record { answer = record { told = refl }; memory = refl }
 
     sought_alike : (led : Sought) → AnswerAlike (sought_as (with_none s t) led) (sought_as (with_none s u) led)
-    sought_alike (sought.To offset) = record { told = refl }
-    sought_alike (sought.Refused q) = record { told = refl }
+    sought_alike (Ok offset) = record { told = refl }
+    sought_alike (Err q) = record { told = refl }
 
     request_alike : (next expected seek : ℕ) → AnswerAlike (requested (with_none s t) next expected seek) (requested (with_none s u) next expected seek)
     unfolding requested
@@ -275,9 +274,9 @@ module _ (m image : List ℕ) (first second numbers : Totals) where
     performed_alike command.Ping next = record { answer = record { told = refl }; memory = refl }
     performed_alike command.SequentialRead next = record { answer = record { told = refl }; memory = refl }
 
-  followed_alike : (s : Session) (r : Read) → Alike (followed (with_none s t) m image r) (followed (with_none s u) m image r)
-  followed_alike s (read.Refused q fetched) = record { answer = record { told = refl }; memory = refl }
-  followed_alike s (read.Whole c words) = performed_alike (fetching (1 + words) s) c (past_words s.offset words)
+  followed_alike : (s : Session) (r : Result Known Unread) → Alike (followed (with_none s t) m image r) (followed (with_none s u) m image r)
+  followed_alike s (Err said) = record { answer = record { told = refl }; memory = refl }
+  followed_alike s (Ok f) = performed_alike (fetching (1 + f.words) s) f.command (past_words s.offset f.words)
 
   step_alike : (s : Session) → Alike (step_of (with_none s t) m image) (step_of (with_none s u) m image)
   unfolding step_of

@@ -9,8 +9,8 @@ use native.Mathlib.Nat.{mul-le-mul_right, add-mul}
 use lib.Dec.{eqb}
 use borrow.Author.Tests.{eqb-true, eqb-false}
 use Rattle.words.proofs.Choice.{by_test}
-use Rattle.opcodes.specs.rules.Answers.{code_of, kind_of}
-use Rattle.opcodes.specs.declared.Refusal.TheVariants.{None, Ended as Over}
+use Rattle.opcodes.specs.rules.Answers.{code_of, kind_of, accepted}
+use Rattle.opcodes.specs.rules.Refusals.{None, Ended as Over}
 use Rattle.flash_commands.specs.claims.Ways.{Forward, Back, Way, forward, back, kept, Call}
 use Rattle.flash_session.specs.rules.Sessions.{CallOutcome, unchanged}
 use Rattle.flash.specs.rules.Step.{step_of}

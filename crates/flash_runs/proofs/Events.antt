@@ -1,4 +1,5 @@
 -- The events of a run: a call waits exactly where it is an accepted setting, by the cases of its command, and one that enters is the last.
+use Rattle.std.specs.Prelude.{Some, Ok, Err}
 use Prim.Native.Nat.{ℕ, zero, suc, ◌+◌}
 use mathlib.Core.Bool.{Bool, true, false, not, true≢false}
 use mathlib.Core.List.{List, [], ◌∷◌, ◌++◌, append-nil, append_assoc}
@@ -6,6 +7,8 @@ use mathlib.Core.Logic.{◌⊎◌, inl, inr}
 use mathlib.Core.Path.{◌≡◌, refl, sym, ap, ap₂, ◌∙◌}
 use native.Mathlib.Omega.{arith}
 use borrow.Author.Tests.{eq-eqb, ne_eqb}
+use Rattle.std.specs.declared.result.Result.{Result}
+use Rattle.std.specs.declared.result.Result.TheVariants.{Ok, Err}
 use Rattle.words.specs.rules.Choice.{pick}
 use Rattle.words.proofs.Choice.{chosen, passed, by_test, of_choice}
 use Rattle.opcodes.specs.rules.Answers.{code_of, kind_of, accepted, told}
@@ -13,21 +16,17 @@ use Rattle.opcodes.specs.declared.Command.{Command}
 use Rattle.opcodes.specs.declared.Command.TheVariants as command
 use Rattle.opcodes.specs.declared.Event.{Event}
 use Rattle.opcodes.specs.declared.Event.TheVariants as event
-use Rattle.opcodes.specs.declared.Refusal.{Refusal}
-use Rattle.opcodes.specs.declared.Refusal.TheVariants as refusal
+use Rattle.opcodes.specs.rules.Refusals.{Verdict}
+use Rattle.opcodes.specs.rules.Refusals as refusal
 use Rattle.opcodes.specs.rules.Opcodes.{by_writing}
+use Rattle.opcodes.specs.declared.Known.{Known}
 use Rattle.ledger.specs.rules.Totals.{is_spent}
 use Rattle.ledger.specs.declared.Happening.{Happening}
 use Rattle.reading.specs.rules.Reading.{past_words, argument, read_at}
-use Rattle.reading.specs.declared.Read.{Read}
-use Rattle.reading.specs.declared.Read.TheVariants as read
-use Rattle.commands.specs.rules.Commands.{load_judged, setting_judged, fill_done, setting_done, close_done, sought_from}
+use Rattle.reading.specs.declared.Unread.{Unread}
+use Rattle.commands.specs.rules.Commands.{load_judged, setting_judged, fill_done, setting_done, close_done, sought_from, Sought, Judged}
 use Rattle.commands.specs.declared.Done.{Done}
-use Rattle.commands.specs.declared.Sought.{Sought}
-use Rattle.commands.specs.declared.Sought.TheVariants as sought
 use Rattle.commands.specs.declared.Wrote.{Wrote}
-use Rattle.commands.specs.declared.Judged.{Judged}
-use Rattle.commands.specs.declared.Judged.TheVariants.{Granted, Refused}
 use Rattle.flash_commands.specs.claims.Ways.{Way, forward, back, kept}
 use Rattle.flash_session.specs.rules.Sessions as flash
 use Rattle.flash_session.specs.rules.Sessions.{CallOutcome}
@@ -71,34 +70,34 @@ after_event s h w done next e = of_choice (λ (a : Called). waited a.event ≡ [
 load_event : (s : Session) (m image : List ℕ) (next address size : ℕ) (j : Judged)
     → waited (step.load_judged_as s m image next address size j).answer.event ≡ []
 unfolding step.load_at
-load_event s m image next address size (Granted place) =
+load_event s m image next address size (Ok place) =
     of_choice (λ (o : CallOutcome). waited o.answer.event ≡ []) _ (λ t. refl)
     (λ t. of_choice (λ (o : CallOutcome). waited o.answer.event ≡ []) _ (λ t. refl) (λ t. refl))
-load_event s m image next address size (Refused q) = refl
+load_event s m image next address size (Err q) = refl
 
 fill_event : (j : Judged) (on : Bool) (checksum address size kind pattern : ℕ) → waited (fill_done j on checksum address size kind pattern).event ≡ []
 unfolding fill_done
-fill_event (Granted place) on checksum address size kind pattern = refl
-fill_event (Refused q) on checksum address size kind pattern = refl
+fill_event (Ok place) on checksum address size kind pattern = refl
+fill_event (Err q) on checksum address size kind pattern = refl
 
 close_event : (j : Judged) (checksum address : ℕ) → waited (close_done j checksum address).event ≡ []
 unfolding close_done
-close_event (Granted place) checksum address = refl
-close_event (Refused q) checksum address = refl
+close_event (Ok place) checksum address = refl
+close_event (Err q) checksum address = refl
 
 -- a setting: granted it waits, refused it does not
 setting_waits : (s : Session) (m : List ℕ) (next word value delay : ℕ) (j : Judged) → Judges j
     → Waits (delay ∷ []) (flash-commands.setting_judged_as s m next word value delay j)
 unfolding flash.after setting_done pick
-setting_waits s m next word value delay (Granted place) judges = refl
-setting_waits s m next word value delay (Refused q) (denies ending) =
-    let shut : accepted q ≡ false = ne_eqb (code_of q) 0 ending.refused in
+setting_waits s m next word value delay (Ok place) judges = refl
+setting_waits s m next word value delay (Err q) (denies ending) =
+    let shut : accepted (Some q) ≡ false = ne_eqb (code_of (Some q)) 0 ending.refused in
     ap (λ (a : Called). waited a.event) (passed _ _ _ shut)
     ∙ sym (ap (λ (a : Called). pick (accepted a.refusal) (delay ∷ []) []) (passed _ _ _ shut) ∙ passed _ _ _ shut)
 
 seek_event : (s : Session) (led : Sought) → waited (flash-commands.sought_as s led).event ≡ []
-seek_event s (sought.To offset) = refl
-seek_event s (sought.Refused q) = refl
+seek_event s (Ok offset) = refl
+seek_event s (Err q) = refl
 
 request_event : (s : Session) (next expected seek : ℕ) → waited (flash-commands.requested s next expected seek).event ≡ []
 unfolding flash-commands.requested
@@ -124,12 +123,12 @@ module _ (s : Session) (m image : List ℕ) (next : ℕ) where
   performed_waits command.Ping = none_waited (performed command.Ping next s m image) refl
   performed_waits command.SequentialRead = none_waited (performed command.SequentialRead next s m image) refl
 
-followed_waits : (s : Session) (m image : List ℕ) (what : Read) → Waits (delay_of image s.offset what) (followed s m image what)
-followed_waits s m image (read.Refused q n) = none_waited (followed s m image (read.Refused q n)) refl
-followed_waits s m image (read.Whole c words) = performed_waits (flash.fetching (1 + words) s) m image (past_words s.offset words) c
+followed_waits : (s : Session) (m image : List ℕ) (what : Result Known Unread) → Waits (delay_of image s.offset what) (followed s m image what)
+followed_waits s m image (Err said) = none_waited (followed s m image (Err said)) refl
+followed_waits s m image (Ok f) = performed_waits (flash.fetching (1 + f.words) s) m image (past_words s.offset f.words) f.command
 
 -- a session that is spared waits for nothing
-spared_waits : (delay : List ℕ) (q : Refusal) (s : Session) (m : List ℕ) → accepted q ≡ false → Waits delay (flash.◌leaving◌ (flash.unchanged q s) m)
+spared_waits : (delay : List ℕ) (q : Verdict) (s : Session) (m : List ℕ) → accepted q ≡ false → Waits delay (flash.◌leaving◌ (flash.unchanged q s) m)
 spared_waits delay q s m shut = sym (passed _ _ _ shut)
 
 -- so of every call

@@ -13,10 +13,10 @@ use lib.ListN.{length}
 use borrow.Author.Tests.{eqb-true, ne_eqb, leb-true, not-false}
 use Rattle.words.proofs.Choice.{chosen, passed, both, by_test, of_choice}
 use Rattle.windows.specs.declared.Window.{Window}
-use Rattle.opcodes.specs.rules.Answers.{code_of}
+use Rattle.opcodes.specs.rules.Answers.{code_of, accepted}
 use Rattle.opcodes.specs.declared.Command.{Command}
-use Rattle.opcodes.specs.declared.Refusal.{Refusal}
-use Rattle.opcodes.specs.declared.Refusal.TheVariants.{None, Map, Image, Magic, Ended}
+use Rattle.opcodes.specs.rules.Refusals.{Verdict}
+use Rattle.opcodes.specs.rules.Refusals.{None, Map, Image, Magic, Ended}
 use Rattle.ledger.specs.rules.Totals.{from_one}
 use Rattle.reading.specs.rules.Reading.{words_from}
 use Rattle.commands.specs.rules.Commands.{multiple}
@@ -49,7 +49,7 @@ unspared_lent s m image =
 
 module _ (s : Session) (image : List ℕ) where
   -- what is prescribed, by the way of a call: all words of a command that is accepted
-  read_fetches : {c : Command} {words : ℕ} {q : Refusal} → Reads s image c words → q ≡ None → call_fetches s image q ≡ words
+  read_fetches : {c : Command} {words : ℕ} {q : Verdict} → Reads s image c words → q ≡ None → call_fetches s image q ≡ words
   unfolding call_fetches met words_from
   read_fetches {c} {words} {q} reads accepted =
       ap (call_fetches s image) accepted
@@ -58,12 +58,12 @@ module _ (s : Session) (image : List ℕ) where
       ∙ rw reads.row (omega (arith, reads.count, reads.present))
 
   -- those met where it is refused and the session is ended, none where it is spared
-  kept_fetches : (q : Refusal) → spares q ≡ false → code_of q ≢ 0 → call_fetches s image q ≡ met s image
+  kept_fetches : (q : Verdict) → spares q ≡ false → code_of q ≢ 0 → call_fetches s image q ≡ met s image
   unfolding call_fetches
   kept_fetches q unspared refused =
       passed _ _ _ unspared ∙ ap (λ (k : ℕ). met s image + k) (passed _ _ _ (ne_eqb _ _ refused)) ∙ omega arith
 
-  spared_fetches : (q : Refusal) → spares q ≡ true → call_fetches s image q ≡ 0
+  spared_fetches : (q : Verdict) → spares q ≡ true → call_fetches s image q ≡ 0
   unfolding call_fetches
   spared_fetches q spare = chosen _ _ _ spare
 
@@ -132,7 +132,7 @@ module _ {s : Session} {image : List ℕ} {a : Called} {n limit words : ℕ} (ca
 
   forward_going : Forward s image a → Going a.session (n + call_fetches s image a.refusal) limit words
   forward_going f =
-      let before = going.running (standing (ap (λ (q : Refusal). eqb (code_of q) 14) f.accepted)) in
+      let before = going.running (standing (ap (λ (q : Verdict). eqb (code_of q) 14) f.accepted)) in
       let all = read_fetches s image f.reads f.accepted in
       let same = ap (λ (k : ℕ). k * words) f.retries in
       let lent = f.reads.lent in
@@ -149,7 +149,7 @@ module _ {s : Session} {image : List ℕ} {a : Called} {n limit words : ℕ} (ca
 
   back_going : Back s image a → Going a.session (n + call_fetches s image a.refusal) limit words
   back_going b =
-      let before = going.running (standing (ap (λ (q : Refusal). eqb (code_of q) 14) b.accepted)) in
+      let before = going.running (standing (ap (λ (q : Verdict). eqb (code_of q) 14) b.accepted)) in
       let all = read_fetches s image b.reads b.accepted in
       let again = ap (λ (k : ℕ). k * words) b.counted in
       let lent = b.reads.lent in

@@ -8,23 +8,24 @@ use native.Mathlib.Nat.{add-mul}
 use lib.Dec.{eqb}
 use lib.ListN.{length, length-append}
 use borrow.Author.Tests.{eqb-true, not-false}
+use Rattle.std.specs.declared.result.Result.{Result}
+use Rattle.std.specs.declared.result.Result.TheVariants.{Ok}
 use Rattle.words.proofs.Choice.{chosen, passed, by_test, of_choice}
 use Rattle.windows.specs.declared.Window.{Window}
 use Rattle.opcodes.specs.rules.Answers.{kind_of, told}
-use Rattle.opcodes.specs.rules.Opcodes.{looked_up}
+use Rattle.opcodes.specs.rules.Opcodes.{looked_up, with_words}
 use Rattle.opcodes.specs.declared.Command.{Command}
 use Rattle.opcodes.specs.declared.Command.TheVariants as command
 use Rattle.opcodes.specs.declared.Dialect.{Dialect}
 use Rattle.opcodes.specs.declared.Event.{Event}
 use Rattle.opcodes.specs.declared.Event.TheVariants as event
-use Rattle.opcodes.specs.declared.Found.{Found}
-use Rattle.opcodes.specs.declared.Found.TheVariants.{Known}
 use Rattle.opcodes.specs.declared.Mode.TheVariants.{Flash}
-use Rattle.opcodes.specs.declared.Refusal.TheVariants as refusal
+use Rattle.opcodes.specs.rules.Refusals as refusal
 use Rattle.opcodes.proofs.Counts.{row_is, row-is}
+use Rattle.opcodes.specs.declared.Known.{Known}
+use Rattle.opcodes.specs.declared.Refusal.{Refusal}
 use Rattle.reading.specs.rules.Reading.{read_as, read_at}
-use Rattle.reading.specs.declared.Read.{Read}
-use Rattle.reading.specs.declared.Read.TheVariants as read
+use Rattle.reading.specs.declared.Unread.{Unread}
 use Rattle.flash_commands.specs.claims.Ways.{Reads, Way, forward, back, kept, Call}
 use Rattle.flash_session.specs.rules.Opening.{longest, refused_by, begun, opened_by}
 use Rattle.flash_session.specs.declared.Called.{Called}
@@ -40,16 +41,17 @@ use Rattle.flash_runs.proofs.Calls.{refused_stops}
 use Rattle.flash_runs.proofs.Events.{call_waits, enters_stops}
 
 -- a setting has four argument words, so a command with a delay has five words
-setting_words : (dialect : Dialect) (image : List ℕ) (offset opcode : ℕ) (c : Command) (arguments : ℕ) → looked_up opcode Flash dialect ≡ Known c arguments
-    → 5 * length (delay_of image offset (read_as image offset (Known c arguments))) ≤ 1 + arguments
+setting_words : (dialect : Dialect) (image : List ℕ) (offset opcode : ℕ) (c : Command) (arguments : ℕ)
+    → looked_up opcode Flash dialect ≡ Ok (with_words c arguments)
+    → 5 * length (delay_of image offset (read_as image offset (Ok (with_words c arguments)))) ≤ 1 + arguments
 unfolding row_is
 setting_words dialect image offset opcode c arguments row =
     of_choice Short _ (λ t. omega arith) (λ t. whole c (row-is Flash dialect opcode c arguments row))
   where
-    Short : Read → Type 0
+    Short : Result Known Unread → Type 0
     Short r = 5 * length (delay_of image offset r) ≤ 1 + arguments
 
-    whole : (d : Command) → row_is Flash dialect d arguments ≡ true → 5 * length (delay_of image offset (read.Whole d arguments)) ≤ 1 + arguments
+    whole : (d : Command) → row_is Flash dialect d arguments ≡ true → 5 * length (delay_of image offset (Ok (with_words d arguments))) ≤ 1 + arguments
     whole command.Load e = omega arith
     whole command.Fill e = omega arith
     whole command.BootTable e = omega (arith, eqb-true arguments 4 e)
@@ -66,8 +68,8 @@ module _ (s : Session) (m image : List ℕ) where
   delay_words : {c : Command} {words : ℕ} → Reads s image c words → 5 * length (delay_of image s.offset (read_at image s.offset s.dialect)) ≤ words
   unfolding read_at
   delay_words {c} {words} reads =
-      of_choice (λ (r : Read). 5 * length (delay_of image s.offset r) ≤ words) _ (λ t. omega arith)
-      (λ t. subst (λ (f : Found). 5 * length (delay_of image s.offset (read_as image s.offset f)) ≤ words) (sym reads.row)
+      of_choice (λ (r : Result Known Unread). 5 * length (delay_of image s.offset r) ≤ words) _ (λ t. omega arith)
+      (λ t. subst (λ (f : Result Known Refusal). 5 * length (delay_of image s.offset (read_as image s.offset f)) ≤ words) (sym reads.row)
       (omega (arith, reads.count, setting_words s.dialect image s.offset _ c reads.arguments reads.row)))
 
   wait_words : {c : Command} {words : ℕ} → Reads s image c words → 5 * length (waited (step_of s m image).answer.event) ≤ words

@@ -26,11 +26,7 @@ pub struct Ran {
 fn goes_on(called: Called) -> bool
     ensures { result ≡ goes_on called }
 {
-    let refusal = called.refusal;
-    if refusal.code() == 0 {
-        return !called.session.ended;
-    }
-    false
+    called.refusal.is_none() && !called.session.ended
 }
 
 // The same bits, by another number.
@@ -116,13 +112,7 @@ fn run(
         let called = call(live, count, places, memory, image, numbers, offsets);
         let event = called.event;
         place = event_room::tell(room, place, event);
-        if left == 0 {
-            return Ran {
-                called,
-                told: place,
-            };
-        }
-        if !goes_on(called) {
+        if left == 0 || !goes_on(called) {
             return Ran {
                 called,
                 told: place,
@@ -154,7 +144,7 @@ pub fn run_from(
 {
     let refusal = opened.refusal;
     let session = opened.session;
-    if refusal.code() == 0 {
+    if refusal.is_none() {
         return run(
             session, count, places, memory, image, numbers, offsets, room,
         );

@@ -1,5 +1,5 @@
 // The answers to a call, and what they change in a session.
-ghost use Rattle.std.specs.Prelude.{◌≡◌};
+ghost use Rattle.std.specs.Prelude.{◌≡◌, Some};
 ghost use Rattle.flash_session.specs.rules.Sessions.{go_to, counted_on, fetching, unchanged, stopped, accepted_as, after};
 
 use crate::{Called, Session};
@@ -31,10 +31,10 @@ fn anew(session: Session) -> Session
 
 // Refused, the session unchanged.
 pub fn keep(refusal: Refusal, session: Session) -> Called
-    ensures { result ≡ unchanged refusal session }
+    ensures { result ≡ unchanged (Some refusal) session }
 {
     Called {
-        refusal,
+        refusal: Some(refusal),
         event: Event::Nothing,
         at: 0,
         session: anew(session),
@@ -44,13 +44,13 @@ pub fn keep(refusal: Refusal, session: Session) -> Called
 
 // Refused at the opcode, the session ended.
 pub fn halt(refusal: Refusal, session: Session) -> Called
-    ensures { result ≡ stopped refusal session }
+    ensures { result ≡ stopped (Some refusal) session }
 {
     let at = session.offset;
     let mut over = anew(session);
     over.ended = true;
     Called {
-        refusal,
+        refusal: Some(refusal),
         event: Event::Nothing,
         at,
         session: over,
@@ -68,7 +68,7 @@ pub fn proceed(
 ) -> Called
     ensures { result ≡ accepted_as session happening wrote event next }
 {
-    let refusal = Refusal::None;
+    let refusal = None;
     let dialect = session.dialect;
     let totals = session.totals;
     let turned = totals.happen(dialect, happening);
@@ -127,12 +127,12 @@ fn event_anew(event: Event) -> Event
 pub fn finish(session: Session, happening: Happening, wrote: Wrote, done: Done, next: u32) -> Called
     ensures { result ≡ after session happening wrote done next }
 {
-    let refusal = done.refusal;
-    let told = done.event;
-    let event = event_anew(told);
-    if refusal.code() == 0 {
-        let past = moved(session, done.checksum, next);
-        return proceed(session, happening, wrote, event, past);
+    let event = event_anew(done.event);
+    match done.refusal {
+        None => {
+            let past = moved(session, done.checksum, next);
+            proceed(session, happening, wrote, event, past)
+        }
+        Some(refusal) => halt(refusal, session),
     }
-    halt(refusal, session)
 }

@@ -31,14 +31,14 @@ pub struct Session {
 
 #[derive(Clone, Copy)]
 pub struct Opened {
-    pub refusal: Refusal,
+    pub refusal: Option<Refusal>,
     pub session: Session,
 }
 
 // The answer to a call: `at` is the offset of the opcode, `wrote` the bits of memory that were written.
 #[derive(Clone, Copy)]
 pub struct Called {
-    pub refusal: Refusal,
+    pub refusal: Option<Refusal>,
     pub event: Event,
     pub at: u32,
     pub session: Session,

@@ -1,5 +1,5 @@
 // The sessions that an opening gives.
-ghost use Rattle.std.specs.Prelude.{◌≡◌};
+ghost use Rattle.std.specs.Prelude.{◌≡◌, Some};
 ghost use Rattle.flash_session.specs.rules.Opening.{begun, refused_by, numbering_from};
 
 use crate::{Opened, Session};
@@ -12,7 +12,7 @@ pub fn number_from(opened: Opened) -> Opened
     ensures { result ≡ numbering_from opened }
 {
     let refusal = opened.refusal;
-    if refusal.code() == 0 {
+    if refusal.is_none() {
         let session = opened.session;
         let totals = session.totals;
         let first = totals.from_one();
@@ -31,7 +31,7 @@ pub fn begin(dialect: Dialect, windows: [Window; 8], length: u32, limit: u8) -> 
     ensures { result ≡ begun dialect windows length limit }
 {
     Opened {
-        refusal: Refusal::None,
+        refusal: None,
         session: Session {
             windows,
             ended: false,
@@ -50,7 +50,7 @@ pub fn begin(dialect: Dialect, windows: [Window; 8], length: u32, limit: u8) -> 
 
 // A refused opening.
 pub fn shut(refusal: Refusal, fetched: u32) -> Opened
-    ensures { result ≡ refused_by refusal fetched }
+    ensures { result ≡ refused_by (Some refusal) fetched }
 {
     let none = Window {
         first: 0,
@@ -58,7 +58,7 @@ pub fn shut(refusal: Refusal, fetched: u32) -> Opened
         rights: 0,
     };
     Opened {
-        refusal,
+        refusal: Some(refusal),
         session: Session {
             windows: [none; 8],
             ended: true,

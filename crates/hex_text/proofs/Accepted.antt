@@ -3,13 +3,13 @@ use Rattle.std.proofs.Common.{◌≡◌, ℕ, suc, ◌*◌, ◌/◌, ◌%◌, �
 use native.Mathlib.Decide.{ℕ_discrete, dec_lt}
 use Rattle.words.proofs.Choice.{by_test}
 use Rattle.opcodes.specs.rules.Answers.{code_of}
-use Rattle.opcodes.specs.declared.Refusal.{Refusal}
+use Rattle.opcodes.specs.rules.Refusals.{Verdict}
 use Rattle.hex_text.specs.rules.Text.{image_of, text_of, all_digits, read_answer, write_answer}
 use Rattle.hex_text.proofs.Refusing.{read_length, read_strange, read_narrow, write_length, write_narrow}
 use Rattle.hex_text.proofs.Turning.{image_length, text_length}
 
 -- an answer that is a refusal has no number 0
-told : {answer given : Refusal} {n : ℕ} → answer ≡ given → code_of answer ≡ 0 → code_of given ≡ suc n → ⊥
+told : {answer given : Verdict} {n : ℕ} → answer ≡ given → code_of answer ≡ 0 → code_of given ≡ suc n → ⊥
 told {n = n} e none number = let z : suc n ≡ 0 = sym number ∙ ap code_of (sym e) ∙ none in omega arith
 
 -- an image that was written was of whole words, and its text fitted the room

@@ -1,24 +1,22 @@
 -- What a conversion comes to, refused or not, and where a file's text ends: the two sides of each choice.
+use Rattle.opcodes.specs.declared.Refusal.{Refusal}
 use Rattle.std.proofs.Common.{◌≡◌, ℕ, ◌-◌, ◌≤◌, eqb, List, [], ◌∷◌, length, get_or, sym, refl, ap, ◌∙◌, arith, length-take-le, eq-eqb, ne_eqb}
 use Rattle.words.proofs.Choice.{chosen, passed, of_choice}
-use Rattle.opcodes.specs.rules.Answers.{code_of}
-use Rattle.opcodes.specs.declared.Refusal.{Refusal}
-use Rattle.hex_text.specs.rules.Conversions.{IsPart, text_end, concluded}
-use Rattle.hex_text.specs.declared.conversions.Converted.{Converted}
+use Rattle.std.specs.Prelude.{Some, Ok, Err}
+use Rattle.std.specs.Prelude.{None as Nothing}
+use Rattle.opcodes.specs.rules.Refusals.{Verdict, done_unless}
+use Rattle.opcodes.specs.rules.Refusals as refusal
+use Rattle.hex_text.specs.rules.Conversions.{IsPart, text_end}
 
-abbrev with_length : Refusal → ℕ → Converted
-with_length answer n = record { refusal = answer; length = n }
+-- where nothing is answered but that it is done, nothing is refused
+pub nothing_refused : {x : Unit {0}} (q : Verdict) → Ok x ≡ done_unless q → q ≡ refusal.None
+nothing_refused Nothing e = refl
+nothing_refused (Some q) e = cc
 
-module _ {given : Refusal} (answer : Refusal) (result : List ℕ) (e : given ≡ answer) where
-  pub refused : (code_of given ≡ 0 → ⊥) → with_length given 0 ≡ concluded answer result
-  unfolding concluded
-  refused some = ap (λ (r : Refusal). with_length r 0) e ∙ ap (with_length answer) (sym (passed _ _ _ (ne_eqb (code_of answer) 0 (rw e at some))))
-
-  pub accepted : (n : ℕ) → code_of given ≡ 0 → length result ≡ n → with_length given n ≡ concluded answer result
-  unfolding concluded
-  accepted n none size =
-      ap (λ (r : Refusal). with_length r n) e
-      ∙ ap (with_length answer) (sym (chosen _ _ _ (eq-eqb (code_of answer) 0 (rw e at none)) ∙ size))
+-- and where a refusal is answered, it is that
+pub refused_with : {why : Refusal} (q : Verdict) → Err why ≡ done_unless q → q ≡ Some why
+refused_with Nothing e = cc
+refused_with (Some q) e = cc
 
 -- an empty file has no text
 pub empty_end : (file : List ℕ) → length file ≡ 0 → text_end file ≡ 0

@@ -2,21 +2,21 @@
 use Rattle.std.proofs.Common.{◌≡◌, ℕ, ◌%◌, ◌<◌, ◌≤◌, true, false, not, eqb, List, length, sym, ap, ◌∙◌, le-ltb, lt-ltb, eq-eqb, ne_eqb}
 use Rattle.words.proofs.Choice.{chosen, passed}
 use Rattle.opcodes.specs.rules.Answers.{code_of}
-use Rattle.opcodes.specs.declared.Refusal.{Refusal}
-use Rattle.opcodes.specs.declared.Refusal.TheVariants as refusal
+use Rattle.opcodes.specs.rules.Refusals.{Verdict}
+use Rattle.opcodes.specs.rules.Refusals as refusal
 use Rattle.hex_text.specs.rules.Text.{image_of, text_of, all_digits, read_answer, write_answer, laid, left_by}
 
 -- a refusal leaves the room as it was
-pub left_refused : {answer given : Refusal} (result room : List ℕ) → answer ≡ given → eqb (code_of given) 0 ≡ false
+pub left_refused : {answer given : Verdict} (result room : List ℕ) → answer ≡ given → eqb (code_of given) 0 ≡ false
     → (given ≡ answer) × (room ≡ left_by answer result room)
 unfolding left_by
-left_refused result room e other = (sym e, sym (passed _ _ _ (ap (λ (r : Refusal). eqb (code_of r) 0) e ∙ other)))
+left_refused result room e other = (sym e, sym (passed _ _ _ (ap (λ (r : Verdict). eqb (code_of r) 0) e ∙ other)))
 
 -- without one the result is laid into it
-pub left_done : {answer : Refusal} (result room : List ℕ) → answer ≡ refusal.None
+pub left_done : {answer : Verdict} (result room : List ℕ) → answer ≡ refusal.None
     → (refusal.None ≡ answer) × (laid result room ≡ left_by answer result room)
 unfolding left_by
-left_done result room e = (sym e, sym (chosen _ _ _ (ap (λ (r : Refusal). eqb (code_of r) 0) e)))
+left_done result room e = (sym e, sym (chosen _ _ _ (ap (λ (r : Verdict). eqb (code_of r) 0) e)))
 
 -- a remainder that is none, or one
 even : (n : ℕ) → n ≡ 0 → not (eqb n 0) ≡ false

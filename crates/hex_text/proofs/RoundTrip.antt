@@ -3,8 +3,8 @@ use Rattle.std.proofs.Common.{◌≡◌, ℕ, zero, suc, ◌+◌, ◌*◌, ◌/�
 use Rattle.std.proofs.Common.{map-id, arith, lit<, length-drop, length-take, get_or-drop, take_all, take_at}
 use lib.ListN.{length-map}
 use Rattle.words.specs.rules.Bytes.{number, bytes_at}
-use Rattle.opcodes.specs.rules.Answers.{code_of}
-use Rattle.opcodes.specs.declared.Refusal.TheVariants.{None}
+use Rattle.opcodes.specs.rules.Answers.{code_of, accepted}
+use Rattle.opcodes.specs.rules.Refusals.{None}
 use Rattle.hex_text.specs.claims.RoundTrip.{capital, text_in, image_in, RoundTrip}
 use Rattle.hex_text.specs.rules.Text.{each_word, read_word, written_word, image_of, text_of, all_digits, laid, read_answer, write_answer}
 use Rattle.hex_text.proofs.Accepted.{write_accepted, read_accepted, text_fits, image_fits}

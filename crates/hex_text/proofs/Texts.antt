@@ -1,13 +1,15 @@
 -- Texts of digits and the numbers of their parts: each from the parts that a text is put together of.
-use Rattle.std.proofs.Common.{◌≡◌, ℕ, ◌+◌, ◌*◌, ◌^◌, ◌<◌, ◌≤◌, max, Bool, true, false, ◌&&◌, eqb, List, ◌++◌, length, get_or, take, drop, sym, ap, ◌∙◌, arith}
-use Rattle.std.proofs.Common.{length-drop, length-take, drop-cons, drop-drop, take-add, ne_eqb}
+use Rattle.std.proofs.Common.{◌≡◌, ℕ, ◌+◌, ◌*◌, ◌^◌, ◌<◌, ◌≤◌, max, Bool, true, false, ◌&&◌, eqb, List, length, get_or, take, drop, sym, ap, ◌∙◌, arith}
+use Rattle.std.proofs.Common.{[], ◌∷◌, length-take, ne_eqb}
+use Rattle.std.proofs.Math.Nat.{pow-le-pow_right}
+use Rattle.std.proofs.lemmas.List.{take_more}
 use mathlib.Core.Bool.{and-false}
 use Rattle.words.specs.rules.Bytes.{bytes_at}
 use Rattle.words.specs.rules.Choice.{pick}
 use Rattle.words.proofs.Choice.{chosen, passed, by_test}
 use Rattle.digits.specs.rules.Digits.{digit_value, is_digit}
 use Rattle.digits.specs.rules.Numbers.{number_of}
-use Rattle.digits.proofs.Numbers.{digits_drop, digits_take, number_append}
+use Rattle.digits.proofs.Numbers.{digits_drop, digits_take, number_append, number_lt}
 use Rattle.hex_text.specs.rules.Digits.{word_of}
 use Rattle.hex_text.specs.rules.Text.{all_digits}
 
@@ -31,19 +33,19 @@ pub digits_part : (text : List ℕ) (at n : ℕ) → all_digits text ≡ true �
 unfolding bytes_at
 digits_part text at n all = digits_take 16 n (drop at text) (digits_drop 16 at text all)
 
--- the number of two parts in a row
-pub word_parts : (text : List ℕ) (at n k : ℕ) → at + (n + k) ≤ length text
-    → word_of (bytes_at text at (n + k)) ≡ word_of (bytes_at text at n) * 16 ^ k + word_of (bytes_at text (at + n) k)
-unfolding bytes_at
-word_parts text at n k h =
-    ap word_of (take-add n k (drop at text) ∙ ap (λ (l : List ℕ). take n (drop at text) ++ take k l) (drop-drop n at text))
-    ∙ number_append 16 (take n (drop at text)) (take k (drop (at + n) text))
-    ∙ ap (λ (m : ℕ). word_of (take n (drop at text)) * 16 ^ m + word_of (take k (drop (at + n) text))) whole
-  where
-    whole : length (take k (drop (at + n) text)) ≡ k
-    whole = simp (length-take, length-drop) (omega arith)
+-- one digit more is sixteen times the number so far and its value
+pub digit_more : (digits : List ℕ) (i : ℕ) → i < length digits
+    → word_of (take (i + 1) digits) ≡ 16 * word_of (take i digits) + digit_value (get_or digits i 0)
+unfolding number_of
+digit_more digits i h =
+    ap word_of (take_more digits i 0 h)
+    ∙ number_append 16 (take i digits) (get_or digits i 0 ∷ [])
+    ∙ omega arith
 
--- the number of one digit is its value
-pub one_digit : (text : List ℕ) (at : ℕ) → at < length text → word_of (bytes_at text at 1) ≡ digit_value (get_or text at 0)
-unfolding bytes_at number_of
-one_digit text at h = rw (drop-cons text at 0 h) (omega arith)
+-- fewer than eight digits leave room for one more in a word
+pub digits_fit : (digits : List ℕ) (i : ℕ) → all_digits digits ≡ true → i < 8 → 16 * word_of (take i digits) + 16 ≤ 2 ^ 32
+digits_fit digits i all h =
+    let below = number_lt 16 (take i digits) (digits_take 16 i digits all) in
+    let few : length (take i digits) ≤ 7 = simp length-take (omega arith) in
+    let most = pow-le-pow_right {n = 16} (omega arith) few in
+    omega arith

@@ -3,24 +3,31 @@
 use Rattle.std.proofs.Common.{◌≡◌, ℕ, zero, suc, ◌+◌, ◌*◌, ◌<◌, ◌≤◌, List, ◌++◌, map, length, take, drop, sym, refl, ap, ◌∙◌, ap₂, append_assoc, append-nil}
 use Rattle.std.proofs.Common.{add_comm, mul-zero, mul-suc, add-one, arith, length-append, length-drop, drop-drop, take_at, take-add, drop_at}
 use mathlib.Core.List.{map-append}
-use lib.Seq.{take-append_seam, drop-append-add, sets, sets-eq}
+use borrow.Rule.Slice.PartMut.{put_mid}
 use Rattle.hex_text.specs.rules.Text.{each_word, laid}
 
--- a room that holds a result is as long as before
-length_laid : (result room : List ℕ) → length result ≤ length room → length (laid result room) ≡ length room
-unfolding laid
-length_laid result room h = rw length-append (simp length-drop (omega arith))
-
 -- a result goes on where it ended
-laid_sets : (front more room : List ℕ) → length front + length more ≤ length room
-    → sets (laid front room) (length front) more ≡ laid (front ++ more) room
+laid_more : (front more room : List ℕ) (at count : ℕ) → length front ≡ at → length more ≡ count
+    → put_mid at count (laid front room) more ≡ laid (front ++ more) room
 unfolding laid
-laid_sets front more room h =
-    sets-eq more (front ++ drop (length front) room) (length front) (rw length-append (simp length-drop (omega arith)))
-    ∙ ap₂ (λ (before after : List ℕ). before ++ more ++ after)
-    (take-append_seam front (drop (length front) room))
-    (drop-append-add front (drop (length front) room) (length more) ∙ drop-drop (length more) (length front) room)
-    ∙ ap (λ (n : ℕ). front ++ more ++ drop n room) (sym (length-append front more))
+laid_more front more room at count starts ends =
+    ap₂ (λ (before after : List ℕ). before ++ (more ++ drop count after))
+    (take_at front (drop (length front) room) at starts)
+    (drop_at front (drop (length front) room) at starts)
+    ∙ ap (λ (rest : List ℕ). front ++ (more ++ rest)) (drop-drop count (length front) room)
+    ∙ sym (append_assoc front more (drop (length front + count) room))
+    ∙ ap (λ (n : ℕ). (front ++ more) ++ drop n room) (sym (length-append front more ∙ ap (λ (n : ℕ). length front + n) ends))
+
+-- what a turn takes of a list is its next word, and what it leaves is the rest
+pub word_taken : (size n : ℕ) (l left word rest : List ℕ) → left ≡ drop (size * n) l → left ≡ word ++ rest → length word ≡ size → size * n ≤ length l
+    → (word ≡ take size (drop (size * n) l)) × (rest ≡ drop (size * (n + 1)) l) × (size * (n + 1) ≤ length l)
+word_taken size n l left word rest standing parts whole counted =
+    let both : drop (size * n) l ≡ word ++ rest = sym standing ∙ parts in
+    let one_more : size * (n + 1) ≡ size * n + size = omega arith in (
+      sym (ap (take size) both ∙ take_at word rest size whole),
+      sym (ap (λ (k : ℕ). drop k l) one_more ∙ sym (drop-drop size (size * n) l) ∙ ap (drop size) both ∙ drop_at word rest size whole),
+      omega (arith, simp (length-append, length-drop) at (ap length both)),
+    )
 
 module _ (size : ℕ) (turn : List ℕ → List ℕ) where
   -- the last word of one more
@@ -56,18 +63,12 @@ module _ (size : ℕ) (turn : List ℕ → List ℕ) where
         ∙ add_comm made (made * n)
         ∙ sym (mul-suc made n)
 
-    -- with so many words laid into it the room is as long as before
-    pub same_room : (n : ℕ) (l room : List ℕ) → made * n ≤ length room → length (laid (each_word size turn n l) room) ≡ length room
-    same_room n l room h = length_laid (each_word size turn n l) room (rw (each_length n l) h)
-
     -- one word more is laid into the room
-    pub word_laid : (n : ℕ) (l room : List ℕ) → made * n + made ≤ length room
-        → sets (laid (each_word size turn n l) room) (made * n) (turn (take size (drop (size * n) l))) ≡ laid (each_word size turn (n + 1) l) room
-    word_laid n l room h =
-        let front = each_word size turn n l in
+    pub word_laid : (n at count : ℕ) (l room : List ℕ) → at ≡ made * n → count ≡ made
+        → put_mid at count (laid (each_word size turn n l) room) (turn (take size (drop (size * n) l))) ≡ laid (each_word size turn (n + 1) l) room
+    word_laid n at count l room starts ends =
         let more = turn (take size (drop (size * n) l)) in
-        ap (λ (k : ℕ). sets (laid front room) k more) (sym (each_length n l))
-        ∙ laid_sets front more room (rw (each_length n l, exact (take size (drop (size * n) l))) h)
+        laid_more (each_word size turn n l) more room at count (each_length n l ∙ sym starts) (exact (take size (drop (size * n) l)) ∙ sym ends)
         ∙ ap (λ (all : List ℕ). laid all room) (sym (each_suc n l) ∙ ap (λ (k : ℕ). each_word size turn k l) (sym (add-one n)))
 
     -- turned and turned again is each word turned twice

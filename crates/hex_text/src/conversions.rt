@@ -1,33 +1,20 @@
 // What the programs `ais_hex` and `ais_unhex` decide: what of a file is converted, and how long the result is.
-ghost use Rattle.std.specs.Prelude.{◌≡◌};
+ghost use Rattle.std.specs.Prelude.{◌≡◌, IfOk};
 ghost use Rattle.hex_text.specs.rules.Text.{read_room, write_room};
 ghost use Rattle.hex_text.specs.rules.Conversions.{IsPart, text_end, text_of_file, to_text, to_image};
 
 use opcodes::Refusal;
 
-// The answer, and how many bytes of the room are the result; none where it is refused.
-#[derive(Clone, Copy)]
-pub struct Converted {
-    pub refusal: Refusal,
-    pub length: usize,
-}
-
 const LINE_FEED: u8 = 0x0A;
 
-// An image's text.
-pub fn to_text(image: &[u8], room: &mut [u8]) -> Converted
+// An image's text: how many bytes of the room it is, or why there is none.
+pub fn to_text(image: &[u8], room: &mut [u8]) -> Result<usize, Refusal>
     ensures value { result ≡ to_text image.now room.old }
-    ensures part { IsPart result.length room.new }
+    ensures part { IfOk result (λ length. IsPart length room.new) }
     ensures room_after { room.new ≡ write_room image.now room.old }
 {
-    let refusal = crate::write(image, room);
-    if refusal.code() != 0 {
-        return Converted { refusal, length: 0 };
-    }
-    Converted {
-        refusal,
-        length: 2 * image.len(),
-    }
+    crate::write(image, room)?;
+    Ok(2 * image.len())
 }
 
 // Where a file's text ends: a line feed that is its last character is not part of it.
@@ -44,19 +31,13 @@ fn text_end(file: &[u8]) -> usize
     length
 }
 
-// A text's image.
-pub fn to_image(file: &[u8], room: &mut [u8]) -> Converted
+// A text's image, likewise.
+pub fn to_image(file: &[u8], room: &mut [u8]) -> Result<usize, Refusal>
     ensures value { result ≡ to_image file.now room.old }
-    ensures part { IsPart result.length room.new }
+    ensures part { IfOk result (λ length. IsPart length room.new) }
     ensures room_after { room.new ≡ read_room (text_of_file file.now) room.old }
 {
     let end = text_end(file);
-    let refusal = crate::read(&file[..end], room);
-    if refusal.code() != 0 {
-        return Converted { refusal, length: 0 };
-    }
-    Converted {
-        refusal,
-        length: end / 2,
-    }
+    crate::read(&file[..end], room)?;
+    Ok(end / 2)
 }

@@ -9,46 +9,39 @@ use opcodes::Refusal;
 pub fn greeting(host: Host, image: &[u8]) -> Turned
     ensures { result ≡ in_wait Wait.Greeting host image.now }
 {
-    let heard = host.ear;
-    let bus = host.bus;
-    if host_ear::ends_with_greeting(heard, bus) {
-        return answers::enter(Wait::Start, host, image);
-    }
-    answers::again(host, image)
+    let right = host_ear::ends_with_greeting(host.ear, host.bus);
+    answers::answered_by(right, host, image, answers::enter(Wait::Start, host, image))
 }
 
 // The answer to the start unit is.
 pub fn start(host: Host, image: &[u8]) -> Turned
     ensures { result ≡ in_wait Wait.Start host image.now }
 {
-    let heard = host.ear;
-    let bus = host.bus;
-    if host_ear::ends_with_start(heard, bus) {
-        return answers::enter(Wait::Ping, host, image);
-    }
-    answers::again(host, image)
+    let right = host_ear::ends_with_start(host.ear, host.bus);
+    answers::answered_by(right, host, image, answers::enter(Wait::Ping, host, image))
 }
 
 // Ping's acknowledgement is.
 pub fn ping(host: Host, image: &[u8]) -> Turned
     ensures { result ≡ in_wait Wait.Ping host image.now }
 {
-    let heard = host.ear;
-    if host_ear::acknowledges(heard, sendings::PING) {
-        return answers::enter(Wait::Echo(0), host, image);
-    }
-    answers::again(host, image)
+    let right = host_ear::acknowledges(host.ear, sendings::PING);
+    answers::answered_by(
+        right,
+        host,
+        image,
+        answers::enter(Wait::Echo(0), host, image),
+    )
 }
 
 // The echo of Ping's count or of its word is; 20 for another word.
 pub fn echo(host: Host, image: &[u8], k: u32) -> Turned
     ensures { result ≡ in_wait (Wait.Echo k) host image.now }
 {
-    let heard = host.ear;
-    if heard.count < 4 {
+    if host.ear.count < 4 {
         return answers::again(host, image);
     }
-    if host_ear::newest_word(heard) != sendings::echo_of(host, k) {
+    if host_ear::newest_word(host.ear) != sendings::echo_of(host, k) {
         return answers::refuse(Refusal::Tries, host);
     }
     if k < host.pings {

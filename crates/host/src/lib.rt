@@ -30,9 +30,7 @@ fn take_turn(host: Host, image: &[u8]) -> Turned
     requires { length image.now ≤ 65536 }
     ensures { result ≡ in_wait host.stage.wait host image.now }
 {
-    let stage = host.stage;
-    let wait = stage.wait;
-    match wait {
+    match host.stage.wait {
         Wait::Greeting => greetings::greeting(host, image),
         Wait::Start => greetings::start(host, image),
         Wait::Ping => greetings::ping(host, image),

@@ -8,20 +8,24 @@ use host_answers::{Host, Sending, Turned, Wait, answers, sendings};
 pub fn over(host: Host, image: &[u8], offset: u32) -> Turned
     ensures { result ≡ in_wait (Wait.Over offset) host image.now }
 {
-    let heard = host.ear;
-    if host_ear::acknowledges(heard, sendings::START_OVER) {
-        return answers::send(Sending::Nothing, answers::go_to(host, offset));
-    }
-    answers::again(host, image)
+    let right = host_ear::acknowledges(host.ear, sendings::START_OVER);
+    answers::answered_by(
+        right,
+        host,
+        image,
+        answers::send(Sending::Nothing, answers::go_to(host, offset)),
+    )
 }
 
 // DONE is.
 pub fn done(host: Host, image: &[u8]) -> Turned
     ensures { result ≡ in_wait Wait.Closing host image.now }
 {
-    let heard = host.ear;
-    if host_ear::ends_with_word(heard, machine_answers::DONE) {
-        return answers::send(Sending::Nothing, answers::stop(host));
-    }
-    answers::again(host, image)
+    let right = host_ear::ends_with_word(host.ear, machine_answers::DONE);
+    answers::answered_by(
+        right,
+        host,
+        image,
+        answers::send(Sending::Nothing, answers::stop(host)),
+    )
 }

@@ -10,10 +10,10 @@ use opcodes::Refusal;
 
 // Refused, the host as it was.
 pub fn keep(refusal: Refusal, host: Host) -> Turned
-    ensures { result ≡ rules.unchanged refusal host }
+    ensures { result ≡ rules.unchanged (Some refusal) host }
 {
     Turned {
-        refusal,
+        refusal: Some(refusal),
         sending: Sending::Nothing,
         host,
     }
@@ -23,14 +23,15 @@ pub fn keep(refusal: Refusal, host: Host) -> Turned
 pub fn stop(host: Host) -> Host
     ensures { result ≡ hosts.stop host }
 {
-    let mut over = host;
-    over.ended = true;
-    over
+    Host {
+        ended: true,
+        ..host
+    }
 }
 
 // Refused: nothing goes out, and the host has ended.
 pub fn refuse(refusal: Refusal, host: Host) -> Turned
-    ensures { result ≡ rules.refused refusal host }
+    ensures { result ≡ rules.refused (Some refusal) host }
 {
     keep(refusal, stop(host))
 }
@@ -40,7 +41,7 @@ pub fn send(sending: Sending, host: Host) -> Turned
     ensures { result ≡ rules.sending sending host }
 {
     Turned {
-        refusal: Refusal::None,
+        refusal: None,
         sending,
         host,
     }
@@ -50,13 +51,12 @@ pub fn send(sending: Sending, host: Host) -> Turned
 pub fn wait_for(host: Host, wait: Wait) -> Host
     ensures { result ≡ hosts.waiting host wait }
 {
-    let stage = Stage { wait };
-    let ear = host_ear::unheard();
-    let mut next = host;
-    next.spent = 0;
-    next.stage = stage;
-    next.ear = ear;
-    next
+    Host {
+        spent: 0,
+        stage: Stage { wait },
+        ear: host_ear::unheard(),
+        ..host
+    }
 }
 
 // A new wait begins, with what it sends.
@@ -70,9 +70,7 @@ pub fn enter(wait: Wait, host: Host, image: &[u8]) -> Turned
 pub fn at(host: Host, offset: u32) -> Host
     ensures { result ≡ hosts.at host offset }
 {
-    let mut next = host;
-    next.offset = offset;
-    next
+    Host { offset, ..host }
 }
 
 // On to an offset, where the next command is met.
@@ -87,36 +85,39 @@ fn spend(host: Host) -> Host
     requires { host.spent + 1 < 2 ^ 32 }
     ensures { result ≡ hosts.trying host }
 {
-    let heard = host.ear;
-    let seen = host_ear::look(heard);
-    let mut next = host;
-    next.spent = host.spent + 1;
-    next.ear = seen;
-    next
+    Host {
+        spent: host.spent + 1,
+        ear: host_ear::look(host.ear),
+        ..host
+    }
 }
 
 // What goes out at a look that finds no right answer: nothing where something came, else what the wait sends.
 fn repeat(host: Host, image: &[u8]) -> Sending
     ensures { result ≡ pick host.ear.fresh Sending.Nothing (repeats host.stage.wait host image.now) }
 {
-    let heard = host.ear;
-    if heard.fresh {
+    if host.ear.fresh {
         return Sending::Nothing;
     }
-    let stage = host.stage;
-    let wait = stage.wait;
-    sendings::repetition(wait, host, image)
+    sendings::repetition(host.stage.wait, host, image)
 }
 
 // No right answer: 20 at the last try, else one try more.
 pub fn again(host: Host, image: &[u8]) -> Turned
     ensures { result ≡ rules.again host image.now }
 {
-    if host.tries <= 1 {
-        return refuse(Refusal::Tries, host);
-    }
-    if host.tries - 1 <= host.spent {
+    if host.tries.saturating_sub(1) <= host.spent {
         return refuse(Refusal::Tries, host);
     }
     send(repeat(host, image), spend(host))
+}
+
+// What follows the right answer, where it was heard; else one try more.
+pub fn answered_by(right: bool, host: Host, image: &[u8], then: Turned) -> Turned
+    ensures { result ≡ rules.answered_by right host image.now then }
+{
+    if right {
+        return then;
+    }
+    again(host, image)
 }

@@ -61,14 +61,14 @@ pub struct Host {
 
 #[derive(Clone, Copy)]
 pub struct Opened {
-    pub refusal: Refusal,
+    pub refusal: Option<Refusal>,
     pub host: Host,
 }
 
 // The answer to a turn.
 #[derive(Clone, Copy)]
 pub struct Turned {
-    pub refusal: Refusal,
+    pub refusal: Option<Refusal>,
     pub sending: Sending,
     pub host: Host,
 }
@@ -99,7 +99,7 @@ impl Host {
         }
         let length = image.len() as u32;
         Opened {
-            refusal: Refusal::None,
+            refusal: None,
             host: at_start(bus, dialect, length, tries, limit, pings, false),
         }
     }
@@ -108,11 +108,10 @@ impl Host {
     pub fn hear(self, byte: u8) -> Host
         ensures { result ≡ heard self byte }
     {
-        let before = self.ear;
-        let after = host_ear::hear(before, byte);
-        let mut next = self;
-        next.ear = after;
-        next
+        Host {
+            ear: host_ear::hear(self.ear, byte),
+            ..self
+        }
     }
 }
 
@@ -162,10 +161,10 @@ fn at_start(
 
 // A refused opening.
 fn shut(refusal: Refusal) -> Opened
-    ensures { result ≡ refused_by refusal }
+    ensures { result ≡ refused_by (Some refusal) }
 {
     Opened {
-        refusal,
+        refusal: Some(refusal),
         host: at_start(Bus::Bytes, Dialect::Am17xx, 0, 0, 0, 0, true),
     }
 }
@@ -174,8 +173,5 @@ fn shut(refusal: Refusal) -> Opened
 fn is_allowed(tries: u32) -> bool
     ensures { result ≡ (leb 1 tries && leb tries most_tries) }
 {
-    if tries < 1 {
-        return false;
-    }
-    tries <= Host::MOST_TRIES
+    1 <= tries && tries <= Host::MOST_TRIES
 }

@@ -15,10 +15,7 @@ pub const START_OVER: u32 = 0x5853_5908;
 pub fn echo_of(host: Host, k: u32) -> u32
     ensures { result ≡ echoed host k }
 {
-    if k == 0 {
-        return host.pings;
-    }
-    k
+    if k == 0 { host.pings } else { k }
 }
 
 // The opcode at the host's offset.
@@ -58,10 +55,7 @@ pub fn repetition(wait: Wait, host: Host, image: &[u8]) -> Sending
 pub fn is_part(image: &[u8], from: usize, to: usize) -> bool
     ensures { result ≡ is_part image.now from to }
 {
-    if to < from {
-        return false;
-    }
-    to <= image.len()
+    from <= to && to <= image.len()
 }
 
 // The part of the image from one offset to another; empty where it is not there.

@@ -6,7 +6,6 @@ ghost use Rattle.commands.specs.rules.Commands.{sought_from};
 ghost use Rattle.host_answers.specs.rules.Hosts.{retrying};
 ghost use Rattle.host_commands.specs.rules.Commands.{by_role, words_to, closing, sought_as, compared, acknowledged_as};
 
-use commands::Sought;
 use host_answers::{Host, Sending, Turned, Wait, answers, sendings};
 use opcodes::{Command, Dialect, Refusal};
 
@@ -63,23 +62,23 @@ fn close(dialect: Dialect, host: Host) -> Host
 fn take_words(host: Host, image: &[u8], end: u32) -> Turned
     ensures { result ≡ acknowledged_as host image.now Command.Load end }
 {
-    let heard = host.ear;
-    if host_ear::acknowledges(heard, sendings::opcode_at(host, image)) {
-        return send_words(host, image, end, answers::go_to(host, end));
-    }
-    answers::again(host, image)
+    let right = host_ear::acknowledges(host.ear, sendings::opcode_at(host, image));
+    let words = send_words(host, image, end, answers::go_to(host, end));
+    answers::answered_by(right, host, image, words)
 }
 
 // A close's is: its words go out, and they are the last.
 fn take_close(host: Host, image: &[u8], end: u32) -> Turned
     ensures { result ≡ acknowledged_as host image.now Command.JumpAndClose end }
 {
-    let heard = host.ear;
-    let dialect = host.dialect;
-    if host_ear::acknowledges(heard, sendings::opcode_at(host, image)) {
-        return send_words(host, image, end, close(dialect, answers::at(host, end)));
-    }
-    answers::again(host, image)
+    let right = host_ear::acknowledges(host.ear, sendings::opcode_at(host, image));
+    let words = send_words(
+        host,
+        image,
+        end,
+        close(host.dialect, answers::at(host, end)),
+    );
+    answers::answered_by(right, host, image, words)
 }
 
 // The host with one retry more.
@@ -87,9 +86,10 @@ fn count_retry(host: Host) -> Host
     requires { host.retries < 255 }
     ensures { result ≡ retrying host }
 {
-    let mut next = host;
-    next.retries = host.retries + 1;
-    next
+    Host {
+        retries: host.retries + 1,
+        ..host
+    }
 }
 
 // A mismatch, by where its seek leads: one retry, and Start-Over before it; or 12.
@@ -99,8 +99,8 @@ fn retry(host: Host, image: &[u8], seek: u32) -> Turned
 {
     let led = commands::seek(host.offset, seek);
     match led {
-        Sought::To(offset) => answers::enter(Wait::Over(offset), count_retry(host), image),
-        Sought::Refused(refusal) => answers::refuse(refusal, host),
+        Ok(offset) => answers::enter(Wait::Over(offset), count_retry(host), image),
+        Err(refusal) => answers::refuse(refusal, host),
     }
 }
 
@@ -121,22 +121,18 @@ fn compare(host: Host, image: &[u8], end: u32, checksum: u32) -> Turned
 fn take_checksum(host: Host, image: &[u8], end: u32) -> Turned
     ensures { result ≡ acknowledged_as host image.now Command.Request end }
 {
-    let heard = host.ear;
-    if host_ear::ends_with_checksum(heard, sendings::opcode_at(host, image)) {
-        return compare(host, image, end, host_ear::newest_word(heard));
-    }
-    answers::again(host, image)
+    let right = host_ear::ends_with_checksum(host.ear, sendings::opcode_at(host, image));
+    let compared = compare(host, image, end, host_ear::newest_word(host.ear));
+    answers::answered_by(right, host, image, compared)
 }
 
 // An opcode's acknowledgement is waited for, of a command that ends at an offset.
 pub fn await_acknowledgement(host: Host, image: &[u8], command: Command, end: u32) -> Turned
     ensures { result ≡ acknowledged_as host image.now command end }
 {
-    let role = role_of(command);
-    match role {
-        Role::Passed => take_words(host, image, end),
+    match role_of(command) {
         Role::Asks => take_checksum(host, image, end),
         Role::Closes => take_close(host, image, end),
-        Role::Goes => take_words(host, image, end),
+        Role::Passed | Role::Goes => take_words(host, image, end),
     }
 }

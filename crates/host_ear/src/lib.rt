@@ -1,7 +1,7 @@
 // What a host hears, and whether it ends with a reply of the loader's: the ear of the group controller's half of the line.
 #![tactic(auto)]
 
-ghost use Rattle.std.specs.Prelude.{◌&&◌, ◌≡◌, ◌+◌, ◌*◌, ◌/◌, ◌^◌, ◌≤◌, min, leb, eqb};
+ghost use Rattle.std.specs.Prelude.{◌&&◌, ◌≡◌, ◌+◌, ◌*◌, ◌/◌, ◌^◌, ◌≤◌, leb, eqb};
 ghost use Rattle.machine_answers.specs.rules.Replies.{one_word, acknowledged};
 ghost use Rattle.sent.specs.rules.Line.{start_answer};
 ghost use Rattle.sent.specs.rules.Opening.{greeting};
@@ -10,7 +10,7 @@ ghost use Rattle.host_ear.specs.rules.Ear.{nothing_heard, hearing, looked_at, ne
 use sent::Bus;
 
 // What was heard since the wait began: the last eight bytes, the newest highest, how many came, eight at most, and whether one came since the last turn.
-#[derive(Clone, Copy)]
+#[derive(Clone, Copy, Debug, PartialEq, Eq)]
 pub struct Ear {
     pub last: u64,
     pub count: u8,
@@ -35,16 +35,6 @@ pub fn unheard() -> Ear
     }
 }
 
-// One more byte came, eight counted at most.
-fn count_on(count: u8) -> u8
-    ensures { result ≡ min (count + 1) 8 }
-{
-    if count < 8 {
-        return count + 1;
-    }
-    8
-}
-
 // The last eight bytes with one more.
 fn push(last: u64, byte: u8) -> u64
     ensures { result ≡ last / 2 ^ 8 + byte * 2 ^ 56 }
@@ -52,13 +42,13 @@ fn push(last: u64, byte: u8) -> u64
     (last >> 8) + ((byte as u64) << 56)
 }
 
-// One byte more is heard.
+// One byte more is heard, eight counted at most.
 pub fn hear(ear: Ear, byte: u8) -> Ear
     ensures { result ≡ hearing ear byte }
 {
     Ear {
         last: push(ear.last, byte),
-        count: count_on(ear.count),
+        count: ear.count.min(7) + 1,
         fresh: true,
     }
 }
@@ -67,9 +57,10 @@ pub fn hear(ear: Ear, byte: u8) -> Ear
 pub fn look(ear: Ear) -> Ear
     ensures { result ≡ looked_at ear }
 {
-    let mut seen = ear;
-    seen.fresh = false;
-    seen
+    Ear {
+        fresh: false,
+        ..ear
+    }
 }
 
 // The newest word.
@@ -131,8 +122,5 @@ pub fn acknowledges(ear: Ear, opcode: u32) -> bool
 pub fn ends_with_checksum(ear: Ear, opcode: u32) -> bool
     ensures { result ≡ ends_with_checksum ear opcode }
 {
-    if ear.count < 8 {
-        return false;
-    }
-    (ear.last % 0x1_0000_0000) as u32 == machine_answers::acknowledgement(opcode)
+    8 <= ear.count && (ear.last % 0x1_0000_0000) as u32 == machine_answers::acknowledgement(opcode)
 }

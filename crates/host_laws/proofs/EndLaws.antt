@@ -12,8 +12,8 @@ use Rattle.words.specs.rules.Choice.{pick}
 use Rattle.words.proofs.Choice.{both, by_test, chosen, passed, of_choice}
 use Rattle.opcodes.specs.rules.Answers.{accepted}
 use Rattle.opcodes.specs.declared.Dialect.{Dialect}
-use Rattle.opcodes.specs.declared.Refusal.{Refusal}
-use Rattle.opcodes.specs.declared.Refusal.TheVariants as refusal
+use Rattle.opcodes.specs.rules.Refusals.{Verdict}
+use Rattle.opcodes.specs.rules.Refusals as refusal
 use Rattle.sent.specs.declared.Bus.{Bus}
 use Rattle.commands.specs.rules.Commands.{multiple}
 use Rattle.flash_session.specs.rules.Opening.{good_length}
@@ -105,7 +105,7 @@ turns_ended h image [] ended = ended
 turns_ended h image (bytes ∷ later) ended = turns_ended (turned (heard_all h bytes) image).host image later (still_ended h image bytes ended)
 
 module _ (bus : Bus) (dialect : Dialect) (image : List ℕ) (tries limit pings : ℕ) where
-  unopened : (q : Refusal) → accepted q ≡ false → Runs image tries limit pings (refused_by q)
+  unopened : (q : Verdict) → accepted q ≡ false → Runs image tries limit pings (refused_by q)
   unopened q no_entry =
       record {
         allowed = λ e. absurd (true≢false (sym e ∙ no_entry));
@@ -130,7 +130,7 @@ pub opened_host_ends : OpenedHostEnds
 unfolding opened_by
 opened_host_ends bus dialect image tries limit pings =
     let Mine : Opened → Type 0 = Runs image tries limit pings in
-    let refused : (q : Refusal) → accepted q ≡ false → Mine (refused_by q) = unopened bus dialect image tries limit pings in
+    let refused : (q : Verdict) → accepted q ≡ false → Mine (refused_by q) = unopened bus dialect image tries limit pings in
     of_choice Mine _ (λ e. refused refusal.Image refl)
     (λ good. of_choice Mine _ (λ e. refused refusal.Magic refl)
     (λ e. of_choice Mine _ (λ e. refused refusal.Tries refl) (λ e. opened bus dialect image tries limit pings (not-false _ good))))

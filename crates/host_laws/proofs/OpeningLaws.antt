@@ -8,8 +8,8 @@ use borrow.Author.Tests.{not-true, not-false}
 use Rattle.words.proofs.Choice.{chosen, of_choice}
 use Rattle.opcodes.specs.rules.Answers.{code_of, accepted}
 use Rattle.opcodes.specs.declared.Dialect.{Dialect}
-use Rattle.opcodes.specs.declared.Refusal.{Refusal}
-use Rattle.opcodes.specs.declared.Refusal.TheVariants as refusal
+use Rattle.opcodes.specs.rules.Refusals.{Verdict}
+use Rattle.opcodes.specs.rules.Refusals as refusal
 use Rattle.flash_session.specs.rules.Opening.{good_length}
 use Rattle.sent.specs.declared.Bus.{Bus}
 use Rattle.host_answers.specs.rules.Hosts.{heard, heard_all, refused_by, opened_by}
@@ -30,7 +30,7 @@ stays_ended h ended = record { ended = ended; ever = λ bytes image. chosen _ _ 
 
 module _ (bus : Bus) (dialect : Dialect) (image : List ℕ) (tries limit pings : ℕ) where
   -- a refused opening, by its number
-  closed : (q : Refusal) → accepted q ≡ false → OpeningCodes image tries (code_of q) → Opening bus dialect image tries limit pings (refused_by q)
+  closed : (q : Verdict) → accepted q ≡ false → OpeningCodes image tries (code_of q) → Opening bus dialect image tries limit pings (refused_by q)
   closed q no_entry codes =
       record { codes = codes; opened = λ e. absurd (true≢false (sym e ∙ no_entry)); refused = λ e. stays_ended (refused_by q).host refl }
 

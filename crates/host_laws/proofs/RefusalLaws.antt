@@ -6,16 +6,18 @@ use mathlib.Core.Path.{◌≡◌, refl, sym, ap, ◌∙◌}
 use lib.Dec.{ltb, eqb}
 use lib.ListN.{length}
 use borrow.Author.Tests.{not-true}
+use Rattle.std.specs.declared.result.Result.{Result}
+use Rattle.std.specs.declared.result.Result.TheVariants.{Ok, Err}
 use Rattle.words.specs.rules.Choice.{pick}
 use Rattle.words.proofs.Choice.{chosen, passed, both, of_choice}
 use Rattle.opcodes.specs.rules.Answers.{code_of, accepted}
 use Rattle.opcodes.specs.declared.Command.{Command}
 use Rattle.opcodes.specs.declared.Command.TheVariants as command
-use Rattle.opcodes.specs.declared.Refusal.{Refusal}
-use Rattle.opcodes.specs.declared.Refusal.TheVariants as refusal
+use Rattle.opcodes.specs.rules.Refusals.{Verdict}
+use Rattle.opcodes.specs.rules.Refusals as refusal
+use Rattle.opcodes.specs.declared.Known.{Known}
 use Rattle.reading.specs.rules.Reading.{past_data, read_at}
-use Rattle.reading.specs.declared.Read.{Read}
-use Rattle.reading.specs.declared.Read.TheVariants as read
+use Rattle.reading.specs.declared.Unread.{Unread}
 use Rattle.host_answers.specs.rules.Hosts.{changed}
 use Rattle.host_answers.specs.rules.Answers.{unchanged, refused}
 use Rattle.host.specs.rules.Turn.{met, met_to, in_wait, turned}
@@ -36,7 +38,7 @@ settings h ended retries offset spent wait ear = record { bus = refl; dialect = 
 
 module _ {h : Host} where
   -- a refusal of a look stops the host, 14 and 3 spare it
-  stops : (q : Refusal) → spares q ≡ false → Refuses h (refused q h)
+  stops : (q : Verdict) → spares q ≡ false → Refuses h (refused q h)
   stops q ends =
       record {
         silent = refl;
@@ -44,7 +46,7 @@ module _ {h : Host} where
         stopped = λ e. record { ended = refl; retries = refl; offset = refl; spent = refl; wait = refl; ear = refl };
       }
 
-  spared : (q : Refusal) → spares q ≡ true → Refuses h (unchanged q h)
+  spared : (q : Verdict) → spares q ≡ true → Refuses h (unchanged q h)
   spared q e = record { silent = refl; spared = λ e. refl; stopped = λ ends. absurd (true≢false (sym e ∙ ends)) }
 
 module _ {h : Host} {image : List ℕ} where
@@ -123,12 +125,12 @@ met_none h image command.JumpAndClose end = refl
 met_none h image command.Ping end = refl
 met_none h image command.SequentialRead end = refl
 
-met_refusal : (h : Host) (image : List ℕ) (r : Read) → (met h image r).refusal ≡ met_with h image r
-met_refusal h image (read.Refused q fetched) = refl
-met_refusal h image (read.Whole c words) =
-    let end : ℕ = past_data c words image h.offset in
+met_refusal : (h : Host) (image : List ℕ) (r : Result Known Unread) → (met h image r).refusal ≡ met_with h image r
+met_refusal h image (Err said) = refl
+met_refusal h image (Ok f) =
+    let end : ℕ = past_data f.command f.words image h.offset in
     of_choice (λ (t : Turned). t.refusal ≡ pick (ltb (length image) end) refusal.Missing refusal.None) (ltb (length image) end)
-    (λ short. sym (chosen _ _ _ short)) (λ long. met_none h image c end ∙ sym (passed _ _ _ long))
+    (λ short. sym (chosen _ _ _ short)) (λ long. met_none h image f.command end ∙ sym (passed _ _ _ long))
 
 pub judged_before_the_opcode : JudgedBeforeTheOpcode
 unfolding turned

@@ -1,4 +1,5 @@
 -- The cases of a turn, once for all laws: a turn takes the tests of its definition one after the other, and its wait decides what follows the right answer.
+use Rattle.std.specs.Prelude.{Ok, Err}
 use Prim.Native.Nat.{ℕ, ◌+◌, ◌<◌}
 use mathlib.Core.Bool.{Bool, true, false, not, ◌&&◌, true≢false, and-false, or-true}
 use mathlib.Core.List.{List}
@@ -6,6 +7,7 @@ use mathlib.Core.Path.{◌≡◌, refl, sym, ap, ◌∙◌}
 use native.Mathlib.Omega.{arith}
 use lib.Dec.{leb, eqb}
 use borrow.Author.Tests.{ltb-true, ltb-false, leb-true, leb-false, eqb-true, ne_eqb, le-leb, lt-leb, not-true, not-false}
+use Rattle.std.specs.declared.result.Result.{Result}
 use Rattle.words.specs.rules.Bytes.{word_at}
 use Rattle.words.specs.rules.Choice.{pick}
 use Rattle.words.proofs.Choice.{chosen, passed, both, of_choice}
@@ -15,22 +17,22 @@ use Rattle.opcodes.specs.declared.Command.TheVariants as command
 use Rattle.opcodes.specs.declared.Dialect.{Dialect}
 use Rattle.opcodes.specs.declared.Dialect.TheVariants.{Am17xx, Dm648}
 use Rattle.opcodes.specs.declared.Mode.TheVariants.{Flash}
-use Rattle.opcodes.specs.declared.Refusal.{Refusal}
-use Rattle.opcodes.specs.declared.Refusal.TheVariants as refusal
+use Rattle.opcodes.specs.declared.Refusal.TheVariants as why
+use Rattle.opcodes.specs.rules.Refusals.{Verdict}
+use Rattle.opcodes.specs.rules.Refusals as refusal
 use Rattle.opcodes.proofs.Counts.{row_is, row-is}
+use Rattle.opcodes.specs.declared.Known.{Known}
 use Rattle.reading.specs.rules.Reading.{argument}
-use Rattle.reading.specs.declared.Read.{Read}
 use Rattle.reading.proofs.Reading.{Reads, no_opcode, unknown, retired, cut_short, whole, reads}
-use Rattle.commands.specs.rules.Commands.{sought_from}
-use Rattle.commands.specs.declared.Sought.{Sought}
-use Rattle.commands.specs.declared.Sought.TheVariants as sought
+use Rattle.reading.specs.declared.Unread.{Unread}
+use Rattle.commands.specs.rules.Commands.{sought_from, Sought}
 use Rattle.host_ear.specs.rules.Ear.{newest, ends_with_checksum}
 use Rattle.host_answers.specs.rules.Hosts.{at, trying}
 use Rattle.host_answers.specs.rules.Sendings.{echoed, repeats, is_part}
 use Rattle.host_answers.specs.rules.Answers.{unchanged, refused, sending, again, answered_by, acknowledges, on_to}
 use Rattle.host_commands.specs.rules.Commands.{words_to, closing}
-use Rattle.host.specs.rules.Turn.{echo_heard, met, met_to}
 use Rattle.host_commands.specs.rules.Commands.{sought_as, compared, acknowledged_as}
+use Rattle.host.specs.rules.Turn.{echo_heard, met, met_to}
 use Rattle.host.specs.rules.Turn.{in_wait, turned}
 use Rattle.host_laws.specs.claims.Looks.{is_request, is_close, is_lent, is_turn, right_answer, echo_differs, fails, repeated}
 use Rattle.host_laws.specs.claims.Outgoing as out
@@ -44,7 +46,7 @@ use Rattle.host_answers.specs.declared.Wait.{Wait}
 use Rattle.host_answers.specs.declared.Wait.TheVariants as wait
 
 -- a refusal that has no law of its own here: 5, 6, 15
-pub record Plain (q : Refusal) : Type 0 where
+pub record Plain (q : Verdict) : Type 0 where
   pub not_0 : eqb (code_of q) 0 ≡ false
   pub not_3 : eqb (code_of q) 3 ≡ false
   pub not_11 : eqb (code_of q) 11 ≡ false
@@ -63,8 +65,8 @@ gone = record { not_0 = refl; not_3 = refl; not_11 = refl; not_12 = refl; not_14
 
 -- a seek leads to an offset, or is 12
 data Seeks : Sought → Type 0 where
-  to : {offset : ℕ} → Seeks (sought.To offset)
-  nowhere : Seeks (sought.Refused refusal.Seek)
+  to : {offset : ℕ} → Seeks (Ok offset)
+  nowhere : Seeks (Err why.Seek)
 
 seeks : (request seek : ℕ) → Seeks (sought_from request seek)
 unfolding sought_from
@@ -94,7 +96,7 @@ module _ (h : Host) (image : List ℕ) where
         → h.spent + 1 < h.tries
         → Looked before (sending (pick h.ear.fresh Nothing (repeated h.stage.wait h image)) (trying h))
     goes : {before : Wait} {g : Host} {sent : Sending} → Right before → Next h image before g sent → Looked before (sending sent g)
-    refuses : {before : Wait} {q : Refusal} → Right before → mismatches before h image ≡ false → Plain q → Looked before (refused q h)
+    refuses : {before : Wait} {q : Verdict} → Right before → mismatches before h image ≡ false → Plain q → Looked before (refused q h)
     no_retry : {before : Wait} → Right before → mismatches before h image ≡ true → leb h.limit h.retries ≡ true
         → Looked before (refused refusal.Checksum h)
     no_seek : {before : Wait} → Right before → mismatches before h image ≡ true → leb h.limit h.retries ≡ false
@@ -217,7 +219,7 @@ module _ (h : Host) (image : List ℕ) where
   stands_looked command.Ping words end row stands = absurd (true≢false (sym row))
   stands_looked command.SequentialRead words end row stands = goes nothing_right (out.moves (out.passed stands refl))
 
-  met_looked : {r : Read} → Reads image h.offset h.dialect r → Looked wait.Nothing (met h image r)
+  met_looked : {r : Result Known Unread} → Reads image h.offset h.dialect r → Looked wait.Nothing (met h image r)
   met_looked (no_opcode short) = refuses nothing_right refl missing
   met_looked (unknown here e) = refuses nothing_right refl opcode
   met_looked (retired here e) = refuses nothing_right refl gone

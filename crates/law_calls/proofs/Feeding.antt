@@ -15,8 +15,8 @@ use Rattle.windows.specs.rules.Window.{sum_of}
 use Rattle.windows.specs.declared.Window.{Window}
 use Rattle.opcodes.specs.rules.Answers.{accepted, code_of}
 use Rattle.opcodes.specs.declared.Dialect.{Dialect}
-use Rattle.opcodes.specs.declared.Refusal.{Refusal}
-use Rattle.opcodes.specs.declared.Refusal.TheVariants as refusal
+use Rattle.opcodes.specs.rules.Refusals.{Verdict}
+use Rattle.opcodes.specs.rules.Refusals as refusal
 use Rattle.sent.specs.rules.Bus.{units_fed}
 use Rattle.sent.specs.rules.Feeding.{answers, replied}
 use Rattle.sent.specs.rules.Opening.{opened_by, numbering_from}
@@ -60,7 +60,7 @@ not-true true e = absurd (false≢true e)
 not-true false e = refl
 
 module _ (bus : Bus) (o : Opened) (memory lent room : ℕ) where
-  record Goes (q : Refusal) : Type 0 where
+  record Goes (q : Verdict) : Type 0 where
     goes : accepted q ≡ true → Passed bus o memory lent room
 
   goes_on : Goes (refused_before bus o memory lent room)
@@ -78,7 +78,7 @@ module _ (bus : Bus) (o : Opened) (memory lent room : ℕ) where
   pub passed_begins : Passed bus o memory lent room → accepted (refused_before bus o memory lent room) ≡ true
   unfolding refused_before
   passed_begins p =
-      ap (λ (q : Refusal). accepted q)
+      ap (λ (q : Verdict). accepted q)
       (passed _ _ _ (ap not p.opened) ∙ passed _ _ _ (ap not p.held) ∙ passed _ _ refusal.None (ap not p.wide))
 
 -- what a session comes to that begins
@@ -146,7 +146,7 @@ replies_small call map m bytes room f =
     )
 
 -- what stops a call before its units are fed is 1, 2, 19 or 24
-record Early (q : Refusal) : Type 0 where
+record Early (q : Verdict) : Type 0 where
   early : accepted q ≡ false → is_before (code_of q) ≡ true
 
 none_early : Early refusal.None
@@ -178,7 +178,7 @@ before_early bus o memory lent room opening =
     (λ e. of_choice Early _ {a = refusal.Memory} (λ e. record { early = λ no. refl })
     (λ e. of_choice Early _ {a = refusal.Call} {b = refusal.None} (λ e. record { early = λ no. refl }) (λ e. none_early)))
 
-barred_early : (opening : Refusal) (choice : Choice) (numbers memory sum : ℕ) → Early opening → Early choice.refusal
+barred_early : (opening : Verdict) (choice : Choice) (numbers memory sum : ℕ) → Early opening → Early choice.refusal
     → Early (barred opening choice numbers memory sum)
 unfolding barred
 barred_early opening choice numbers memory sum first listed =
@@ -193,7 +193,7 @@ code_read : (code : ℕ) → code * 2 ^ 32 / 2 ^ 32 ≡ code
 code_read code = omega arith
 
 -- a session that is seen to go on began
-unseen : (q : Refusal) {value : ℕ} → Early q → accepted q ≡ false → value ≡ code_of q * 2 ^ 32 → is_before (value / 2 ^ 32) ≡ false → ⊥
+unseen : (q : Verdict) {value : ℕ} → Early q → accepted q ≡ false → value ≡ code_of q * 2 ^ 32 → is_before (value / 2 ^ 32) ≡ false → ⊥
 unseen q early stopped is seen =
     true≢false (sym (early.early stopped) ∙ sym (ap (λ (n : ℕ). is_before n) (ap (λ (n : ℕ). n / 2 ^ 32) is ∙ code_read (code_of q))) ∙ seen)
 

@@ -8,8 +8,8 @@ use lib.Dec.{eqb}
 use lib.ListN.{length}
 use Rattle.words.specs.rules.Choice.{pick}
 use Rattle.words.proofs.Choice.{chosen, passed, by_test}
-use Rattle.opcodes.specs.rules.Answers.{code_of}
-use Rattle.opcodes.specs.declared.Refusal.{Refusal}
+use Rattle.opcodes.specs.rules.Answers.{code_of, accepted}
+use Rattle.opcodes.specs.rules.Refusals.{Verdict}
 use Rattle.sent.specs.rules.Bus.{all_units, units_fed}
 use Rattle.sent.specs.rules.Feeding.{State, Heard, next, fed, answers, replied, first_of, first_refused, NoneRefused}
 use Rattle.sent.specs.declared.Bus.{Bus}
@@ -62,7 +62,7 @@ none_refused : (bus : Bus) (x : State) (units : List ℕ) → NoneRefused bus x 
 unfolding NoneRefused answers first_refused
 none_refused bus x [] n = refl
 none_refused bus x (u ∷ us) n =
-    ap₂ (λ (q : Refusal) (code : ℕ). first_of (code_of q) code) n.0 (none_refused bus (next bus x u) us n.1) ∙ none_first 0
+    ap₂ (λ (q : Verdict) (code : ℕ). first_of (code_of q) code) n.0 (none_refused bus (next bus x u) us n.1) ∙ none_first 0
 
 -- a number and its parts
 quotient : (code count : ℕ) → count < 2 ^ 32 → (code * 2 ^ 32 + count) / 2 ^ 32 ≡ code

@@ -1,5 +1,7 @@
 -- Each call goes one of its ways: forward it is what its command is to the totals, back it is a seek, refused it is nothing. And a command that is accepted was
 -- granted, so that the history has it once, by the next number.
+use Rattle.opcodes.specs.declared.Refusal.TheVariants as why
+use Rattle.std.specs.Prelude.{Err}
 use Prim.Native.Nat.{ℕ, ◌+◌}
 use mathlib.Core.Bool.{Bool, true, false, not, ◌&&◌, true≢false, false≢true}
 use mathlib.Core.List.{List, [], ◌∷◌, ◌++◌}
@@ -8,6 +10,8 @@ use native.Mathlib.Omega.{arith}
 use lib.Dec.{ltb, eqb}
 use lib.ListN.{length}
 use borrow.Author.Tests.{lt-ltb, le-ltb, eq-eqb, ne_eqb, eqb-true}
+use Rattle.std.specs.declared.result.Result.{Result}
+use Rattle.std.specs.declared.result.Result.TheVariants.{Ok}
 use Rattle.words.specs.rules.Bytes.{word_at, bytes_at}
 use Rattle.words.specs.rules.Choice.{pick}
 use Rattle.words.proofs.Choice.{chosen, passed, by_test, of_choice}
@@ -15,16 +19,16 @@ use Rattle.windows.specs.rules.Map.{good_map, kept_of}
 use Rattle.windows.specs.rules.Window.{sum_of}
 use Rattle.windows.specs.declared.Window.{Window}
 use Rattle.opcodes.specs.rules.Answers.{code_of, accepted}
-use Rattle.opcodes.specs.rules.Opcodes.{looked_up}
+use Rattle.opcodes.specs.rules.Opcodes.{looked_up, with_words}
 use Rattle.opcodes.specs.declared.Command.{Command}
 use Rattle.opcodes.specs.declared.Command.TheVariants as command
 use Rattle.opcodes.specs.declared.Dialect.{Dialect}
 use Rattle.opcodes.specs.declared.Dialect.TheVariants.{Am17xx, Dm648}
-use Rattle.opcodes.specs.declared.Found.{Found}
-use Rattle.opcodes.specs.declared.Found.TheVariants.{Known}
 use Rattle.opcodes.specs.declared.Mode.TheVariants.{Flash}
-use Rattle.opcodes.specs.declared.Refusal.TheVariants as refusal
+use Rattle.opcodes.specs.rules.Refusals as refusal
 use Rattle.opcodes.proofs.Counts.{row_is, row-is}
+use Rattle.opcodes.specs.declared.Known.{Known}
+use Rattle.opcodes.specs.declared.Refusal.{Refusal}
 use Rattle.ledger.specs.rules.Totals.{at_opening, from_one, would_pass, is_spent}
 use Rattle.ledger.specs.claims.Account.{Act, Account, numbers_told}
 use Rattle.ledger.specs.claims.Account as the-account
@@ -34,12 +38,10 @@ use Rattle.ledger.specs.declared.Happening.TheVariants as happened
 use Rattle.ledger.specs.declared.Totals.{Totals}
 use Rattle.ledger.proofs.Booked.{none_booked, happened_booked}
 use Rattle.reading.specs.rules.Reading.{past_words, argument}
-use Rattle.reading.specs.declared.Read.{Read}
 use Rattle.reading.proofs.Reading.{Reads as ReadsAs, no_opcode, unknown, retired, cut_short, whole, reads as how-read}
-use Rattle.commands.specs.rules.Commands.{barred, unit_of, fill_done, shape_of, setting_done}
+use Rattle.reading.specs.declared.Unread.{Unread}
+use Rattle.commands.specs.rules.Commands.{barred, unit_of, fill_done, shape_of, setting_done, Judged}
 use Rattle.commands.specs.declared.Done.{Done}
-use Rattle.commands.specs.declared.Judged.{Judged}
-use Rattle.commands.specs.declared.Judged.TheVariants.{Refused}
 use Rattle.commands.specs.declared.Wrote.{Wrote}
 use Rattle.law_effects.specs.claims.Effects.{Effect, load_effect, fill_effect, setting_effect}
 use Rattle.flash_session.specs.rules.Opening.{good_length, magic, refused_by, begun, opened_by, numbering_from}
@@ -83,11 +85,11 @@ module _ (numbering : Bool) (a : Account) (s : Session) (lent : Lent) where
 
   -- what a call takes, where it is accepted and the table has its command
   takes : {c : Command} {n : ℕ} {goes_Back : Bool} → answer.refusal ≡ refusal.None
-      → looked_up (word_at lent.image s.offset) Flash s.dialect ≡ Known c n → ltb answer.session.offset s.offset ≡ goes_Back
+      → looked_up (word_at lent.image s.offset) Flash s.dialect ≡ Ok (with_words c n) → ltb answer.session.offset s.offset ≡ goes_Back
       → call_acts s lent ≡ command_act c size goes_Back ∷ []
   unfolding call_acts
   takes none row there =
-      chosen _ _ _ (eq-eqb _ _ (ap code_of none)) ∙ ap₂ (λ (found : Found) (goes_Back : Bool). found_acts found size goes_Back) row there
+      chosen _ _ _ (eq-eqb _ _ (ap code_of none)) ∙ ap₂ (λ (found : Result Known Refusal) (goes_Back : Bool). found_acts found size goes_Back) row there
 
   takes_none : (code_of answer.refusal ≡ 0 → ⊥) → call_acts s lent ≡ []
   unfolding call_acts
@@ -119,7 +121,7 @@ module _ (numbering : Bool) (a : Account) (s : Session) (lent : Lent) where
 -- a command that is accepted was granted
 module _ (s : Session) (m image : List ℕ) (number : ℕ) where
   load_listed : {j : Judged} (next address size : ℕ) (test : Bool) (effect : ℕ → Effect) → Judges j
-      → accepted (load_judged_as s m image next address size (barred test refusal.Overflow j)).answer.refusal ≡ true
+      → accepted (load_judged_as s m image next address size (barred test why.Overflow j)).answer.refusal ≡ true
       → numbers_in (judged_one number j effect) ≡ number ∷ []
   unfolding numbers_in
   load_listed next address size test effect grants e = refl
@@ -131,20 +133,20 @@ module _ (s : Session) (m image : List ℕ) (number : ℕ) where
       refused (sym (ap (λ (x : Called). code_of x.refusal) (passed (eqb (code_of done.refusal) 0) _ _ (ne_eqb _ _ refused))) ∙ e)
 
   fill_listed : {j : Judged} (next address size kind pattern : ℕ) (past spent : Bool) (effect : ℕ → Effect) → Judges j
-      → accepted (fill_judged_as s m next address size kind pattern (barred spent refusal.Number (barred past refusal.Overflow j))).answer.refusal ≡ true
+      → accepted (fill_judged_as s m next address size kind pattern (barred spent why.Number (barred past why.Overflow j))).answer.refusal ≡ true
       → numbers_in (judged_one number j effect) ≡ number ∷ []
   unfolding numbers_in fill_done
   fill_listed next address size kind pattern past spent effect grants e = refl
   fill_listed next address size kind pattern past spent effect (denies {q} ending) e =
-      absurd (after_refused _ _ (fill_done (Refused q) s.on s.checksum address size kind pattern) next ending.refused (eqb-true _ _ e))
+      absurd (after_refused _ _ (fill_done (Err q) s.on s.checksum address size kind pattern) next ending.refused (eqb-true _ _ e))
 
   setting_listed : {j : Judged} (next word value delay : ℕ) (spent : Bool) (effect : ℕ → Effect) → Judges j
-      → accepted (setting_judged_as s m next word value delay (barred spent refusal.Number j)).answer.refusal ≡ true
+      → accepted (setting_judged_as s m next word value delay (barred spent why.Number j)).answer.refusal ≡ true
       → numbers_in (judged_one number j effect) ≡ number ∷ []
   unfolding numbers_in setting_done
   setting_listed next word value delay spent effect grants e = refl
   setting_listed next word value delay spent effect (denies {q} ending) e =
-      absurd (after_refused _ _ (setting_done (Refused q) s.checksum delay) next ending.refused (eqb-true _ _ e))
+      absurd (after_refused _ _ (setting_done (Err q) s.checksum delay) next ending.refused (eqb-true _ _ e))
 
 -- the numbers of a call's history
 module _ (a : Account) (s : Session) (lent : Lent) (here : s.totals.next ≡ a.now.numbers + 1) where
@@ -188,22 +190,22 @@ module _ (a : Account) (s : Session) (lent : Lent) (here : s.totals.next ≡ a.n
   command_listed command.Ping n goes_Back e = refl
   command_listed command.SequentialRead n goes_Back e = refl
 
-  abbrev found : Found
+  abbrev found : Result Known Refusal
   found = looked_up (word_at image s.offset) Flash s.dialect
 
   abbrev Listed : Bool → CallOutcome → Type 0
   Listed goes_Back o =
       accepted o.answer.refusal ≡ true → numbers_in (accepted_row found s image) ≡ numbers_told a (found_acts found (word 1) goes_Back)
 
-  read_listed : (goes_Back : Bool) {r : Read} → ReadsAs image s.offset s.dialect r → Listed goes_Back (followed s m image r)
+  read_listed : (goes_Back : Bool) {r : Result Known Unread} → ReadsAs image s.offset s.dialect r → Listed goes_Back (followed s m image r)
   read_listed goes_Back (no_opcode short) e = absurd (false≢true e)
   read_listed goes_Back (unknown there row) e = absurd (false≢true e)
   read_listed goes_Back (retired there row) e = absurd (false≢true e)
   read_listed goes_Back (cut_short there row short) e = absurd (false≢true e)
   read_listed goes_Back (whole {command = c} {words = n} row there) e =
-      ap (λ (f : Found). numbers_in (accepted_row f s image)) row
+      ap (λ (f : Result Known Refusal). numbers_in (accepted_row f s image)) row
       ∙ command_listed c n goes_Back e
-      ∙ sym (ap (λ (f : Found). numbers_told a (found_acts f (word 1) goes_Back)) row)
+      ∙ sym (ap (λ (f : Result Known Refusal). numbers_told a (found_acts f (word 1) goes_Back)) row)
 
   step_listed : (goes_Back : Bool) → Listed goes_Back (step_of s m image)
   unfolding step_of

@@ -1,6 +1,8 @@
 -- Each word goes by the phase that awaits it: an opcode turns the totals, the last argument word of a command does what the command does, and nothing else
 -- touches them. A Request stands unsettled only where an opcode is awaited, or words of a Ping. And a fill or a setting that is accepted was granted, so that
 -- the history has it once, by the next number.
+use Rattle.opcodes.specs.declared.Refusal.TheVariants as why
+use Rattle.std.specs.Prelude.{Some, Ok, Err}
 use Prim.Native.Nat.{ℕ, ◌+◌, ◌-◌}
 use mathlib.Core.Bool.{Bool, true, false, not, ◌&&◌, true≢false}
 use mathlib.Core.List.{List, [], ◌∷◌, ◌++◌}
@@ -9,32 +11,32 @@ use native.Mathlib.Omega.{arith}
 use lib.Dec.{ltb, eqb}
 use lib.ListN.{length}
 use borrow.Author.Tests.{ne_eqb, eqb-true}
+use Rattle.std.specs.declared.result.Result.{Result}
 use Rattle.words.specs.rules.Choice.{pick}
 use Rattle.words.proofs.Choice.{chosen, passed, by_test, of_choice}
 use Rattle.windows.specs.rules.Window.{sum_of}
 use Rattle.windows.specs.declared.Window.{Window}
-use Rattle.opcodes.specs.rules.Answers.{code_of, accepted}
+use Rattle.opcodes.specs.rules.Answers.{code_of, accepted, number_of}
 use Rattle.opcodes.specs.rules.Opcodes.{looked_up}
 use Rattle.opcodes.specs.declared.Command.{Command}
 use Rattle.opcodes.specs.declared.Command.TheVariants as command
 use Rattle.opcodes.specs.declared.Dialect.{Dialect}
 use Rattle.opcodes.specs.declared.Dialect.TheVariants.{Am17xx, Dm648}
 use Rattle.opcodes.specs.declared.Event.{Event}
-use Rattle.opcodes.specs.declared.Found.{Found}
-use Rattle.opcodes.specs.declared.Found.TheVariants.{Known, Retired, Unknown}
 use Rattle.opcodes.specs.declared.Mode.TheVariants.{Sent}
 use Rattle.opcodes.specs.declared.Refusal.{Refusal}
-use Rattle.opcodes.specs.declared.Refusal.TheVariants as refusal
+use Rattle.opcodes.specs.rules.Refusals.{Verdict}
+use Rattle.opcodes.specs.rules.Refusals as refusal
 use Rattle.opcodes.proofs.Counts.{row_is, row-is}
+use Rattle.opcodes.specs.declared.Known.{Known}
+use Rattle.opcodes.proofs.Looked.{Looked, of_row, of_none, of_retired, looked}
 use Rattle.ledger.specs.rules.Totals.{at_opening, from_one, would_pass, is_spent, turned}
 use Rattle.ledger.specs.claims.Account.{Act, Account, numbers_told}
 use Rattle.ledger.specs.claims.Account as the-account
 use Rattle.ledger.specs.claims.Booked.{standing_of, next_of, totals_of, Leads, by_mark, opcode_act}
 use Rattle.ledger.specs.declared.Totals.{Totals}
 use Rattle.ledger.proofs.Booked.{none_booked, opcode_booked, piece_booked}
-use Rattle.commands.specs.rules.Commands.{barred, done_if, unit_of, fill_judged, fill_done, shape_of, setting_judged, setting_done}
-use Rattle.commands.specs.declared.Judged.{Judged}
-use Rattle.commands.specs.declared.Judged.TheVariants.{Granted, Refused}
+use Rattle.commands.specs.rules.Commands.{barred, done_if, unit_of, fill_judged, fill_done, shape_of, setting_judged, setting_done, Judged}
 use Rattle.commands.proofs.Judging.{fill_passes, setting_passes}
 use Rattle.law_effects.specs.claims.Effects.{Effect, fill_effect, setting_effect}
 use Rattle.machine_answers.specs.rules.Answers.{WordOutcome, ◌leaving◌, await, quiet, after}
@@ -141,22 +143,22 @@ module _ (numbering : Bool) (a : Account) (k : Core) (m : List ℕ) (word : ℕ)
       (in_phase p k m word).answer.core
 
   opcode_goes : (asks : Bool) → k.tally.totals ≡ totals_of k.dialect numbering a asks → Settled k.stage.phase asks
-      → (found : Found) → looked_up word Sent k.dialect ≡ found
+      → {found : Result Known Refusal} → Looked found → looked_up word Sent k.dialect ≡ found
       → Steps k.dialect numbering a asks (pick (accepted (at_opcode k m word found).answer.refusal) (opcode_acts found) [])
       (at_opcode k m word found).answer.core
   unfolding pick
-  opcode_goes asks here settled Unknown known = record { standing = asks; leads = none_booked here; settled = settled }
-  opcode_goes asks here settled Retired known = record { standing = asks; leads = none_booked here; settled = settled }
-  opcode_goes asks here settled (Known c words) known =
-      let x : Taken = acknowledging word (toward c words (begun c k) m none_kept 0).answer in
-      let up = acknowledged_too word c k.tally.totals _ (opcode_turns k m c words (row-is Sent k.dialect word c words known)) in
+  opcode_goes asks here settled of_none known = record { standing = asks; leads = none_booked here; settled = settled }
+  opcode_goes asks here settled of_retired known = record { standing = asks; leads = none_booked here; settled = settled }
+  opcode_goes asks here settled (of_row f) known =
+      let x : Taken = acknowledging word (toward f.command f.words (begun f.command k) m none_kept 0).answer in
+      let up = acknowledged_too word f.command k.tally.totals _ (opcode_turns k m f.command f.words (row-is Sent k.dialect word f.command f.words known)) in
       record {
-        standing = by_mark c false true false false;
+        standing = by_mark f.command false true false false;
         leads =
-            subst (λ (l : List Act). Leads k.dialect numbering a asks l x.core.tally.totals (by_mark c false true false false))
-            (sym (chosen (accepted x.refusal) (opcode_act c ∷ []) [] (ap (λ (q : Refusal). accepted q) up.accepted)))
-            (subst (λ (t : Totals). Leads k.dialect numbering a asks (opcode_act c ∷ []) t (by_mark c false true false false)) (sym up.totals)
-            (opcode_booked c here));
+            subst (λ (l : List Act). Leads k.dialect numbering a asks l x.core.tally.totals (by_mark f.command false true false false))
+            (sym (chosen (accepted x.refusal) (opcode_act f.command ∷ []) [] (ap (λ (q : Verdict). accepted q) up.accepted)))
+            (subst (λ (t : Totals). Leads k.dialect numbering a asks (opcode_act f.command ∷ []) t (by_mark f.command false true false false)) (sym up.totals)
+            (opcode_booked f.command here));
         settled = up.settled;
       }
 
@@ -169,12 +171,12 @@ module _ (numbering : Bool) (a : Account) (k : Core) (m : List ℕ) (word : ℕ)
   argument_goes true c left kept here o none same = commands_booked c k m kept word numbering a here
   argument_goes false c left kept here o none same =
       subst (λ (l : List Act). Leads k.dialect numbering a false l o.answer.core.tally.totals false)
-      (sym (chosen (accepted o.answer.refusal) [] [] (ap (λ (q : Refusal). accepted q) none))) (none_booked (same ∙ here))
+      (sym (chosen (accepted o.answer.refusal) [] [] (ap (λ (q : Verdict). accepted q) none))) (none_booked (same ∙ here))
 
   phase_goes : (asks : Bool) (p : Phase) → k.stage.phase ≡ p → Settled p asks → k.tally.totals ≡ totals_of k.dialect numbering a asks → Goes asks p
   unfolding pick
   phase_goes asks phase.Opcode at settled here =
-      opcode_goes asks here (subst (λ (p : Phase). Settled p asks) (sym at) settled) (looked_up word Sent k.dialect) refl
+      opcode_goes asks here (subst (λ (p : Phase). Settled p asks) (sym at) settled) (looked word Sent k.dialect) refl
   phase_goes true (phase.Argument c left kept) at settled here = absurd (true≢false settled)
   phase_goes false (phase.Argument c left kept) at settled here =
       record {
@@ -245,20 +247,20 @@ module _ (numbering : Bool) (a : Account) (asks : Bool) (bus : Bus) (s : Session
 -- a fill or a setting that is accepted was granted
 module _ (k : Core) (number : ℕ) where
   done_listed : (t : Totals) (first judged : Judged) (checksum fed : ℕ) (told : Event) (effect : ℕ → Effect) → Numbered first
-      → ((q : Refusal) → first ≡ Refused q → judged ≡ Refused q)
+      → ((q : Refusal) → first ≡ Err q → judged ≡ Err q)
       → accepted (after k t (done_if judged checksum told fed)).refusal ≡ true
       → numbers_in (judged_one number first effect) ≡ number ∷ []
   unfolding numbers_in after
-  done_listed t (Granted place) judged checksum fed told effect is refuses e = refl
-  done_listed t (Refused q) judged checksum fed told effect is refuses e =
+  done_listed t (Ok place) judged checksum fed told effect is refuses e = refl
+  done_listed t (Err q) judged checksum fed told effect is refuses e =
       let same = refuses q refl in
-      let refused : (after k t (done_if judged checksum told fed)).refusal ≡ q =
+      let refused : (after k t (done_if judged checksum told fed)).refusal ≡ Some q =
       ap (λ (j : Judged). (after k t (done_if j checksum told fed)).refusal) same
-      ∙ ap (λ (x : Taken). x.refusal) (passed (eqb (code_of q) 0) _ _ (ne_eqb _ _ is)) in
+      ∙ ap (λ (x : Taken). x.refusal) (passed (eqb (number_of q) 0) _ _ (ne_eqb _ _ is)) in
       absurd (is (sym (ap code_of refused) ∙ eqb-true _ _ e))
 
 -- what is refused before a later test stays refused
-barred_first : (test : Bool) (later : Refusal) (j : Judged) (q : Refusal) → j ≡ Refused q → barred test later j ≡ Refused q
+barred_first : (test : Bool) (later : Refusal) (j : Judged) (q : Refusal) → j ≡ Err q → barred test later j ≡ Err q
 barred_first test later j q e = ap (barred test later) e
 
 module _ (a : Account) (k : Core) (m : List ℕ) (word : ℕ) (here : k.tally.totals.next ≡ a.now.numbers + 1) where
@@ -270,14 +272,14 @@ module _ (a : Account) (k : Core) (m : List ℕ) (word : ℕ) (here : k.tally.to
       let first : Judged = fill_judged k.windows kept.first kept.second kept.third in
       done_listed k k.tally.totals.next (counted_on k kept.second) first _ _ _ _ (λ place. fill_effect place kept.second (unit_of kept.third) word)
       (fill_passes _ code-numbers k.windows kept.first kept.second kept.third)
-      (λ q r. barred_first (is_spent k.tally.totals) refusal.Number _ q
-      (barred_first (would_pass k.dialect k.tally.totals kept.second) refusal.Overflow first q r)) e
+      (λ q r. barred_first (is_spent k.tally.totals) why.Number _ q
+      (barred_first (would_pass k.dialect k.tally.totals kept.second) why.Overflow first q r)) e
       ∙ ap (λ (number : ℕ). number ∷ []) here
   last_told command.BootTable kept e =
       let first : Judged = setting_judged k.windows kept.first kept.second kept.third in
       done_listed k k.tally.totals.next (setting_totals k) first _ _ _ _ (λ place. setting_effect place (shape_of kept.first) kept.third)
       (setting_passes _ code-numbers k.windows kept.first kept.second kept.third)
-      (λ q r. barred_first (is_spent k.tally.totals) refusal.Number first q r) e
+      (λ q r. barred_first (is_spent k.tally.totals) why.Number first q r) e
       ∙ ap (λ (number : ℕ). number ∷ []) here
   last_told command.Enable kept e = refl
   last_told command.Disable kept e = refl
@@ -287,11 +289,11 @@ module _ (a : Account) (k : Core) (m : List ℕ) (word : ℕ) (here : k.tally.to
   last_told command.Ping kept e = refl
   last_told command.SequentialRead kept e = refl
 
-  opcode_told : (found : Found) → [] ≡ numbers_told a (opcode_acts found)
+  opcode_told : {found : Result Known Refusal} → Looked found → [] ≡ numbers_told a (opcode_acts found)
   unfolding numbers_told pick
-  opcode_told Unknown = refl
-  opcode_told Retired = refl
-  opcode_told (Known c words) = none c
+  opcode_told of_none = refl
+  opcode_told of_retired = refl
+  opcode_told (of_row f) = none f.command
     where
       none : (c : Command) → [] ≡ numbers_told a (opcode_act c ∷ [])
       none command.Load = refl
@@ -314,7 +316,7 @@ module _ (a : Account) (k : Core) (m : List ℕ) (word : ℕ) (here : k.tally.to
   phase_told : (p : Phase) → accepted (in_phase p k m word).answer.refusal ≡ true
       → numbers_in (accepted_word p k word) ≡ numbers_told a (phase_acts p k.dialect word)
   unfolding numbers_in numbers_told pick
-  phase_told phase.Opcode e = opcode_told (looked_up word Sent k.dialect)
+  phase_told phase.Opcode e = opcode_told (looked word Sent k.dialect)
   phase_told (phase.Argument c left kept) e = argument_told (eqb (left - 1) 0) c kept _ e
   phase_told (phase.Data end left) e = ap (λ (number : ℕ). number ∷ []) (omega (arith, here))
   phase_told (phase.Echo n) e = refl

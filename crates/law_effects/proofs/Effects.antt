@@ -1,5 +1,6 @@
 -- Load, Fill and Boot Table write the bits that their effects say, and keep all others: the laws of writes to a list, where a granted range
 -- lies inside the memory. A byte is told by its bits, so memory is too.
+use Rattle.std.specs.Prelude.{Option, Some, None, Ok, Err, ok_or}
 use Prim.Native.Nat.{ℕ, zero, suc, ◌+◌, ◌*◌, ◌/◌, ◌%◌, ◌^◌, ◌≤◌, ◌<◌}
 use mathlib.Core.Bool.{Bool, true, false, ◌&&◌}
 use mathlib.Core.List.{List}
@@ -18,23 +19,16 @@ use Rattle.words.proofs.Puts.{length_put}
 use Rattle.words.proofs.Units.{field_done}
 use Rattle.words.proofs.WrittenBits.{bit_put, bit_written}
 use Rattle.windows.specs.rules.Window.{sum_of}
-use Rattle.windows.specs.declared.Place.{Place}
-use Rattle.windows.specs.declared.Place.TheVariants.{At, Nowhere}
 use Rattle.windows.specs.declared.Right.{Right}
 use Rattle.windows.specs.declared.Window.{Window}
 use Rattle.windows.proofs.Laws.{placed_inside}
 use Rattle.words.proofs.Choice.{both, of_choice}
 use Rattle.opcodes.specs.declared.Refusal.{Refusal}
-use Rattle.commands.specs.rules.Commands.{placed, range_judged, load_judged, unit_of, units_judged, type_judged}
+use Rattle.commands.specs.rules.Commands.{range_judged, load_judged, unit_of, units_judged, type_judged}
 use Rattle.commands.specs.rules.Commands.{fill_judged, type_filled, fill_memory, start_of, stop_of}
-use Rattle.commands.specs.rules.Commands.{field_shape, type_shape, shape_of, too_wide, shape_judged, setting_judged, shape_set, setting_memory}
+use Rattle.commands.specs.rules.Commands.{field_shape, type_shape, shape_of, too_wide, shape_judged, setting_judged, shape_set, setting_memory, Judged, Shape}
+use Rattle.commands.specs.declared.Bits.{Bits}
 use Rattle.stores.specs.rules.Stores.{loaded, filled}
-use Rattle.commands.specs.declared.Judged.{Judged}
-use Rattle.commands.specs.declared.Judged.TheVariants.{Granted, Refused}
-use Rattle.commands.specs.declared.Shape.{Shape}
-use Rattle.commands.specs.declared.Shape.TheVariants.{Bits, Wrong}
-use Rattle.commands.specs.declared.UnitType.{UnitType}
-use Rattle.commands.specs.declared.UnitType.TheVariants.{Of, Other}
 use Rattle.law_effects.specs.claims.Effects.{bytes_effect, load_effect, fill_effect, setting_effect, Does, DoesInside}
 
 -- bytes written one after the other
@@ -46,25 +40,25 @@ unfolding loaded
 load_does m place bytes = put_does m place (length bytes) (λ i. get_or bytes i 0)
 
 pub fill_does : (m : List ℕ) (place size : ℕ) (unit : UnitOf) (pattern : ℕ)
-    → Does (fill_effect place size (Of unit) pattern) m (filled m place size unit pattern)
+    → Does (fill_effect place size (Some unit) pattern) m (filled m place size unit pattern)
 unfolding filled
 fill_does m place size unit pattern = put_does m place size _
 
 -- bits of a unit written, where they lie in the unit and the unit in the memory
-field_does : (m : List ℕ) (place : ℕ) (unit : UnitOf) (start width : ℕ) (field : Bool) (value : ℕ)
-    → start + width ≤ 8 * size_of unit → place + size_of unit ≤ length m
-    → Does (setting_effect place (Bits unit start width field) value) m (field_written m place unit start width value)
-field_does m place unit start width field value lie fit =
-    subst (Does (setting_effect place (Bits unit start width field) value) m) (field_done m place unit start width value fit lie).1
+field_does : (m : List ℕ) (place : ℕ) (bits : Bits) (value : ℕ)
+    → bits.start + bits.width ≤ 8 * size_of bits.unit → place + size_of bits.unit ≤ length m
+    → Does (setting_effect place (Some bits) value) m (field_written m place bits.unit bits.start bits.width value)
+field_does m place bits value lie fit =
+    subst (Does (setting_effect place (Some bits) value) m) (field_done m place bits.unit bits.start bits.width value fit lie).1
     (record {
-      same_length = length_put m place (size_of unit) _;
-      each_bit = λ p h. bit_written m place (size_of unit) start width value p fit lie h;
+      same_length = length_put m place (size_of bits.unit) _;
+      each_bit = λ p h. bit_written m place (size_of bits.unit) bits.start bits.width value p fit lie h;
     })
 
 -- the bits of a shape lie in its unit
 abbrev Lies : Shape → Type 0
-Lies Wrong = Unit {0}
-Lies (Bits unit start width field) = start + width ≤ 8 * size_of unit
+Lies None = Unit {0}
+Lies (Some bits) = bits.start + bits.width ≤ 8 * size_of bits.unit
 
 field_lies : (start stop : ℕ) → Lies (field_shape start stop)
 unfolding field_shape
@@ -75,16 +69,16 @@ field_lies start stop =
     omega (arith, leb-true start stop parts.0, leb-true stop 31 parts.1))
     (λ e. tt)
 
-type_lies : (word : ℕ) (kind : UnitType) → Lies (type_shape word kind)
-type_lies word (Of unit) = omega arith
-type_lies word Other = of_choice Lies _ (λ e. field_lies (start_of word) (stop_of word)) (λ e. tt)
+type_lies : (word : ℕ) (kind : Option UnitOf) → Lies (type_shape word kind)
+type_lies word (Some unit) = omega arith
+type_lies word None = of_choice Lies _ (λ e. field_lies (start_of word) (stop_of word)) (λ e. tt)
 
 every_shape_lies : (word : ℕ) → Lies (shape_of word)
 unfolding shape_of
 every_shape_lies word = of_choice Lies _ (λ e. tt) (λ e. type_lies word (unit_of (byte word 0)))
 
 -- a refused command leaves memory as it was
-module _ (m : List ℕ) {judged : Judged} {q : Refusal} (refused : judged ≡ Refused q) where
+module _ (m : List ℕ) {judged : Judged} {q : Refusal} (refused : judged ≡ Err q) where
   pub fill_refused : (size kind pattern : ℕ) → fill_memory judged m size kind pattern ≡ m
   unfolding fill_memory
   fill_refused size kind pattern = rw refused
@@ -94,59 +88,60 @@ module _ (m : List ℕ) {judged : Judged} {q : Refusal} (refused : judged ≡ Re
   setting_refused word value = rw refused
 
 -- what is granted past a refusal is granted
-past_refusal : (t : Bool) (q : Refusal) {judged : Judged} {place : ℕ} → pick t (Refused q) judged ≡ Granted place → judged ≡ Granted place
+past_refusal : (t : Bool) (q : Refusal) {judged : Judged} {place : ℕ} → pick t (Err q) judged ≡ Ok place → judged ≡ Ok place
 unfolding pick
 past_refusal true q e = cc
 past_refusal false q e = e
 
 -- a granted range has its place
-granted_place : (q : Refusal) (found : Place) {place : ℕ} → placed q found ≡ Granted place → found ≡ At place
-granted_place q (At found) e = cc
-granted_place q Nowhere e = cc
+granted_place : (q : Refusal) (found : Option ℕ) {place : ℕ} → ok_or found q ≡ Ok place → found ≡ Some place
+granted_place q (Some found) e = cc
+granted_place q None e = cc
 
 -- a granted command does its effect, inside the memory, where the memory has the map's length
 module _ (windows : List Window) (m : List ℕ) (lent : length m ≡ sum_of windows) where
-  range_inside : (wanted : Right) (address size : ℕ) {place : ℕ} → range_judged windows wanted address size ≡ Granted place
+  range_inside : (wanted : Right) (address size : ℕ) {place : ℕ} → range_judged windows wanted address size ≡ Ok place
       → place + size ≤ length m
   unfolding range_judged
   range_inside wanted address size {place} e =
       rw lent (placed_inside windows wanted address size place (granted_place _ _ e))
 
-  pub load_granted : (address : ℕ) (bytes : List ℕ) {place : ℕ} → load_judged windows address (length bytes) ≡ Granted place
+  pub load_granted : (address : ℕ) (bytes : List ℕ) {place : ℕ} → load_judged windows address (length bytes) ≡ Ok place
       → DoesInside (load_effect place bytes) m (loaded m place bytes)
   unfolding load_judged
   load_granted address bytes {place} e =
       record { does = load_does m place bytes; lies = omega (arith, range_inside _ address (length bytes) e) }
 
   -- whole units that are granted lie inside the memory
-  units_inside : (wanted : Right) (unit : UnitOf) (address size : ℕ) {place : ℕ} → units_judged windows wanted unit address size ≡ Granted place
+  units_inside : (wanted : Right) (unit : UnitOf) (address size : ℕ) {place : ℕ} → units_judged windows wanted unit address size ≡ Ok place
       → place + size ≤ length m
   unfolding units_judged
   units_inside wanted unit address size e = range_inside wanted address size (past_refusal _ _ e)
 
   -- a type that is granted is a unit
-  type_granted : (kind : UnitType) (address size pattern : ℕ) {place : ℕ} → type_judged windows address size kind ≡ Granted place
+  type_granted : (kind : Option UnitOf) (address size pattern : ℕ) {place : ℕ} → type_judged windows address size kind ≡ Ok place
       → DoesInside (fill_effect place size kind pattern) m (type_filled m place size kind pattern)
-  type_granted Other address size pattern e = absurd (let z : ◌≡◌ {A = ℕ} 0 1 = cc in omega arith)
-  type_granted (Of unit) address size pattern {place} e =
+  type_granted None address size pattern e = absurd (let z : ◌≡◌ {A = ℕ} 0 1 = cc in omega arith)
+  type_granted (Some unit) address size pattern {place} e =
       record { does = fill_does m place size unit pattern; lies = omega (arith, units_inside _ unit address size e) }
 
-  pub fill_granted : (address size kind pattern : ℕ) {place : ℕ} → fill_judged windows address size kind ≡ Granted place
-      → DoesInside (fill_effect place size (unit_of kind) pattern) m (fill_memory (Granted place) m size kind pattern)
+  pub fill_granted : (address size kind pattern : ℕ) {place : ℕ} → fill_judged windows address size kind ≡ Ok place
+      → DoesInside (fill_effect place size (unit_of kind) pattern) m (fill_memory (Ok place) m size kind pattern)
   unfolding fill_judged fill_memory
   fill_granted address size kind pattern e = type_granted (unit_of kind) address size pattern e
 
   -- a shape that is granted is not wrong, and its unit lies inside the memory
   shape_granted : (shape : Shape) → Lies shape → (address value : ℕ) {place : ℕ}
-      → shape_judged windows shape address value ≡ Granted place
+      → shape_judged windows shape address value ≡ Ok place
       → DoesInside (setting_effect place shape value) m (shape_set m place shape value)
-  shape_granted Wrong lie address value e = absurd (let z : ◌≡◌ {A = ℕ} 0 1 = cc in omega arith)
-  shape_granted (Bits unit start width field) lie address value {place} e =
-      let fit : place + size_of unit ≤ length m = units_inside _ unit address (size_of unit) (past_refusal (field && too_wide width value) _ e) in
-      record { does = field_does m place unit start width field value lie fit; lies = omega arith }
+  shape_granted None lie address value e = absurd (let z : ◌≡◌ {A = ℕ} 0 1 = cc in omega arith)
+  shape_granted (Some bits) lie address value {place} e =
+      let fit : place + size_of bits.unit ≤ length m =
+      units_inside _ bits.unit address (size_of bits.unit) (past_refusal (bits.field && too_wide bits.width value) _ e) in
+      record { does = field_does m place bits value lie fit; lies = omega arith }
 
-  pub setting_granted : (word address value : ℕ) {place : ℕ} → setting_judged windows word address value ≡ Granted place
-      → DoesInside (setting_effect place (shape_of word) value) m (setting_memory (Granted place) m word value)
+  pub setting_granted : (word address value : ℕ) {place : ℕ} → setting_judged windows word address value ≡ Ok place
+      → DoesInside (setting_effect place (shape_of word) value) m (setting_memory (Ok place) m word value)
   unfolding setting_memory
   setting_granted word address value e = shape_granted (shape_of word) (every_shape_lies word) address value e
 

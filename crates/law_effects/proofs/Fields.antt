@@ -1,5 +1,6 @@
 -- A field that is set holds the data: each of its bits is the data's, and a number below a power of two is told by its bits below it. 16 is given in its
 -- case alone, since each test of the judgement leads elsewhere.
+use Rattle.std.specs.Prelude.{Option, Some, None, Ok, Err, ok_or}
 use Prim.Native.Nat.{ℕ, ◌+◌, ◌-◌, ◌*◌, ◌^◌, ◌≤◌, ◌<◌}
 use mathlib.Core.Bool.{true, false, ◌&&◌, false≢true}
 use mathlib.Core.List.{List, [], ◌∷◌}
@@ -22,19 +23,11 @@ use Rattle.words.proofs.WrittenBits.{bit_unit}
 use Rattle.windows.specs.rules.Window as window
 use Rattle.windows.specs.rules.Window.{sum_of, place_of}
 use Rattle.windows.specs.declared.Window.{Window}
-use Rattle.windows.specs.declared.Place.{Place}
-use Rattle.windows.specs.declared.Place.TheVariants.{At, Nowhere}
 use Rattle.windows.specs.declared.Right.TheVariants as right
 use Rattle.opcodes.specs.declared.Refusal.TheVariants as refusal
-use Rattle.commands.specs.rules.Commands.{judged_code, multiple, placed, range_judged, unit_of, units_judged}
+use Rattle.commands.specs.rules.Commands.{judged_code, multiple, range_judged, unit_of, units_judged}
 use Rattle.commands.specs.rules.Commands.{start_of, stop_of, field_shape, type_shape, shape_of}
-use Rattle.commands.specs.rules.Commands.{too_wide, shape_judged, setting_judged, setting_done, setting_memory}
-use Rattle.commands.specs.declared.Judged.{Judged}
-use Rattle.commands.specs.declared.Judged.TheVariants.{Granted, Refused}
-use Rattle.commands.specs.declared.Shape.{Shape}
-use Rattle.commands.specs.declared.Shape.TheVariants.{Bits}
-use Rattle.commands.specs.declared.UnitType.{UnitType}
-use Rattle.commands.specs.declared.UnitType.TheVariants.{Of}
+use Rattle.commands.specs.rules.Commands.{too_wide, shape_judged, setting_judged, setting_done, setting_memory, Judged, Shape}
 use Rattle.commands.proofs.Judging.{shape_too_wide}
 use Rattle.commands.proofs.Shapes.{unit_other, shape_typed}
 use Rattle.law_effects.specs.claims.Effects.{setting_effect, DoesInside}
@@ -43,7 +36,7 @@ use Rattle.law_effects.proofs.Effects.{setting_refused, setting_granted, bits_te
 
 module _ (windows : List Window) (word address value : ℕ) (named : NamesField word) where
   abbrev pub field : Shape
-  field = Bits Four (start_of word) (field_width word) true
+  field = Some (record { unit = Four; start = start_of word; width = field_width word; field = true })
 
   pub named_shape : shape_of word ≡ field
   unfolding field_shape
@@ -52,20 +45,20 @@ module _ (windows : List Window) (word address value : ℕ) (named : NamesField 
       ∙ chosen _ _ _ (le-leb _ _ named.kind.1)
       ∙ chosen _ _ _ (ap₂ ◌&&◌ (le-leb _ _ named.order) (le-leb _ _ named.last))
 
-  named_too_wide : 2 ^ field_width word ≤ value → setting_judged windows word address value ≡ Refused refusal.TooWide
+  named_too_wide : 2 ^ field_width word ≤ value → setting_judged windows word address value ≡ Err refusal.TooWide
   unfolding too_wide
   named_too_wide h = shape_too_wide windows address value named_shape refl (le-leb _ _ h)
 
   -- data that were accepted fit
-  accepted_fits : {place : ℕ} → setting_judged windows word address value ≡ Granted place → value < 2 ^ field_width word
+  accepted_fits : {place : ℕ} → setting_judged windows word address value ≡ Ok place → value < 2 ^ field_width word
   accepted_fits e =
       by_test (leb (2 ^ field_width word) value)
       (λ wide. let refused = named_too_wide (leb-true _ _ wide) in absurd (let z : ◌≡◌ {A = ℕ} 0 1 = cc in omega arith))
       (λ fit. leb-false _ _ fit)
 
-  module _ (m : List ℕ) (lent : length m ≡ sum_of windows) {place : ℕ} (granted : setting_judged windows word address value ≡ Granted place) where
+  module _ (m : List ℕ) (lent : length m ≡ sum_of windows) {place : ℕ} (granted : setting_judged windows word address value ≡ Ok place) where
     abbrev left : List ℕ
-    left = setting_memory (Granted place) m word value
+    left = setting_memory (Ok place) m word value
 
     does : DoesInside (setting_effect place field value) m left
     does = subst (λ (s : Shape). DoesInside (setting_effect place s value) m left) named_shape (setting_granted windows m lent word address value granted)
@@ -93,26 +86,26 @@ module _ (windows : List Window) (word address value : ℕ) (named : NamesField 
 -- a judgement is 16 in its case alone
 module _ (windows : List Window) (word address value : ℕ) where
   abbrev Case : Judged → Type 0
-  Case judged = judged ≡ Refused refusal.TooWide → NamesField word × (2 ^ field_width word ≤ value)
+  Case judged = judged ≡ Err refusal.TooWide → NamesField word × (2 ^ field_width word ≤ value)
 
   abbrev ShapeCase : Shape → Type 0
   ShapeCase shape = Case (shape_judged windows shape address value)
 
-  abbrev TypeCase : UnitType → Type 0
+  abbrev TypeCase : Option UnitOf → Type 0
   TypeCase kind = ShapeCase (type_shape word kind)
 
   another : (judged : Judged) → eqb (judged_code judged) 16 ≡ false → Case judged
   another judged e f = absurd (eqb-false _ _ e (ap judged_code f))
 
-  place_case : (found : Place) → Case (placed refusal.Range found)
-  place_case (At place) = another (Granted place) refl
-  place_case Nowhere = another (Refused refusal.Range) refl
+  place_case : (found : Option ℕ) → Case (ok_or found refusal.Range)
+  place_case (Some place) = another (Ok place) refl
+  place_case None = another (Err refusal.Range) refl
 
   unit_case : (unit : UnitOf) → Case (units_judged windows right.Set unit address (size_of unit))
   unfolding units_judged range_judged
-  unit_case unit = of_choice Case _ (λ e. another (Refused refusal.Unaligned) refl) (λ e. place_case (place_of windows right.Set address (size_of unit)))
+  unit_case unit = of_choice Case _ (λ e. another (Err refusal.Unaligned) refl) (λ e. place_case (place_of windows right.Set address (size_of unit)))
 
-  whole_case : (unit : UnitOf) → ShapeCase (type_shape word (Of unit))
+  whole_case : (unit : UnitOf) → ShapeCase (type_shape word (Some unit))
   whole_case unit = of_choice Case false (λ e. absurd (false≢true e)) (λ e. unit_case unit)
 
   field_case : (3 ≤ byte word 0) × (byte word 0 ≤ 4) → byte word 3 ≡ 0 → ShapeCase (field_shape (start_of word) (stop_of word))
@@ -124,7 +117,7 @@ module _ (windows : List Window) (word address value : ℕ) where
       of_choice Case (leb (2 ^ field_width word) value)
       (λ wide f. (record { kind = kind; order = leb-true _ _ parts.0; last = leb-true _ _ parts.1; high = high }, leb-true _ _ wide))
       (λ fit. unit_case Four))
-      (λ e. another (Refused refusal.TypeWord) refl)
+      (λ e. another (Err refusal.TypeWord) refl)
 
   kind_case : byte word 3 ≡ 0 → ShapeCase (type_shape word (unit_of (byte word 0)))
   unfolding unit_of
@@ -139,12 +132,12 @@ module _ (windows : List Window) (word address value : ℕ) where
       (λ low.
       field_case
       (omega (arith, eqb-false (byte word 0) 0 more, eqb-false (byte word 0) 1 many, eqb-false (byte word 0) 2 most), leb-true _ _ low) high)
-      (λ e. another (Refused refusal.TypeWord) refl))))
+      (λ e. another (Err refusal.TypeWord) refl))))
 
   setting_case : ShapeCase (shape_of word)
   unfolding shape_of
   setting_case =
-      of_choice ShapeCase _ (λ e. another (Refused refusal.TypeWord) refl) (λ e. kind_case (eqb-true _ _ (not-false _ e)))
+      of_choice ShapeCase _ (λ e. another (Err refusal.TypeWord) refl) (λ e. kind_case (eqb-true _ _ (not-false _ e)))
 
 pub field_laws : FieldLaws
 unfolding pick bit join with_field byte number bytes_at put fits field_fits field_written window.has_right window.inside window.grants_range

@@ -1,4 +1,5 @@
 -- Commands tell what they wrote: what is told is their effect's first bit and count, by the same cases.
+use Rattle.std.specs.Prelude.{Option, Some, None, Ok}
 use Prim.Native.Nat.{ℕ}
 use mathlib.Core.List.{List}
 use mathlib.Core.Path.{◌≡◌, refl, sym}
@@ -6,13 +7,9 @@ use native.Mathlib.Omega.{arith}
 use Rattle.words.proofs.Choice.{passed}
 use Rattle.words.proofs.Ranges.{above}
 use Rattle.windows.specs.declared.Window.{Window}
-use Rattle.commands.specs.rules.Commands.{unit_of, type_judged, fill_judged, shape_of}
+use Rattle.words.specs.declared.Unit.{Unit as UnitOf}
+use Rattle.commands.specs.rules.Commands.{unit_of, type_judged, fill_judged, shape_of, Shape}
 use Rattle.commands.specs.rules.Wrote.{bytes_wrote, shape_wrote}
-use Rattle.commands.specs.declared.Judged.TheVariants.{Granted}
-use Rattle.commands.specs.declared.Shape.{Shape}
-use Rattle.commands.specs.declared.Shape.TheVariants.{Bits, Wrong}
-use Rattle.commands.specs.declared.UnitType.{UnitType}
-use Rattle.commands.specs.declared.UnitType.TheVariants.{Of, Other}
 use Rattle.law_effects.specs.claims.Effects.{no_effect, fill_effect, setting_effect, DoesInside}
 use Rattle.law_effects.specs.claims.Wrote.{Reports, CommandsTell}
 use Rattle.law_effects.proofs.Effects.{load_granted, fill_granted, setting_granted}
@@ -21,19 +18,19 @@ use Rattle.law_effects.proofs.Effects.{load_granted, fill_granted, setting_grant
 none_does : (m : List ℕ) → DoesInside no_effect m m
 none_does m = record { does = record { same_length = refl; each_bit = λ p h. sym (passed _ _ _ (above 0 0 p (omega arith))) }; lies = omega arith }
 
-type_reports : (windows : List Window) (address size pattern place number : ℕ) (kind : UnitType) → type_judged windows address size kind ≡ Granted place
-    → Reports (bytes_wrote (Granted place) size number) (fill_effect place size kind pattern)
-type_reports windows address size pattern place number Other e = absurd (let z : ◌≡◌ {A = ℕ} 0 1 = cc in omega arith)
-type_reports windows address size pattern place number (Of unit) e = (omega arith, refl)
+type_reports : (windows : List Window) (address size pattern place number : ℕ) (kind : Option UnitOf) → type_judged windows address size kind ≡ Ok place
+    → Reports (bytes_wrote (Ok place) size number) (fill_effect place size kind pattern)
+type_reports windows address size pattern place number None e = absurd (let z : ◌≡◌ {A = ℕ} 0 1 = cc in omega arith)
+type_reports windows address size pattern place number (Some unit) e = (omega arith, refl)
 
-pub fill_reports : (windows : List Window) (address size kind pattern place number : ℕ) → fill_judged windows address size kind ≡ Granted place
-    → Reports (bytes_wrote (Granted place) size number) (fill_effect place size (unit_of kind) pattern)
+pub fill_reports : (windows : List Window) (address size kind pattern place number : ℕ) → fill_judged windows address size kind ≡ Ok place
+    → Reports (bytes_wrote (Ok place) size number) (fill_effect place size (unit_of kind) pattern)
 unfolding fill_judged
 fill_reports windows address size kind pattern place number e = type_reports windows address size pattern place number (unit_of kind) e
 
 pub shape_reports : (place value number : ℕ) (shape : Shape) → Reports (shape_wrote place shape number) (setting_effect place shape value)
-shape_reports place value number Wrong = (refl, refl)
-shape_reports place value number (Bits unit start width field) = (refl, refl)
+shape_reports place value number None = (refl, refl)
+shape_reports place value number (Some bits) = (refl, refl)
 
 pub commands_tell : CommandsTell
 commands_tell =

@@ -9,17 +9,17 @@ use native.Mathlib.Nat.{zero-add}
 use lib.Dec.{ltb, eqb, lit<}
 use lib.ListN.{length}
 use borrow.Author.Tests.{lt-ltb, le-ltb, eq-eqb, ne_eqb}
+use Rattle.std.specs.declared.result.Result.TheVariants.{Ok}
 use Rattle.words.specs.rules.Bytes.{byte, AreBytes}
 use Rattle.words.specs.rules.Choice.{pick}
 use Rattle.words.proofs.Choice.{chosen, passed, of_choice}
 use Rattle.windows.specs.rules.Window.{sum_of}
 use Rattle.windows.specs.declared.Window.{Window}
 use Rattle.opcodes.specs.rules.Answers.{code_of, told}
-use Rattle.opcodes.specs.rules.Opcodes.{rows, row_serves, found_in, looked_up}
+use Rattle.opcodes.specs.rules.Opcodes.{rows, row_serves, found_in, looked_up, with_words}
 use Rattle.opcodes.specs.declared.Command.TheVariants.{Ping}
 use Rattle.opcodes.specs.declared.Dialect.{Dialect}
 use Rattle.opcodes.specs.declared.Dialect.TheVariants.{Am17xx, Dm648}
-use Rattle.opcodes.specs.declared.Found.TheVariants.{Known}
 use Rattle.opcodes.specs.declared.Mode.TheVariants.{Sent}
 use Rattle.flash_session.specs.rules.Opening as flash
 use Rattle.flash_session.specs.rules.Opening.{good_length}
@@ -62,7 +62,7 @@ use Rattle.law_exchange.proofs.Scenes.{Scene, scene, advance, turns, by_turn, id
 use Rattle.law_exchange.proofs.Standing.{host_at, turned_at}
 
 -- Ping's row
-ping_row : (dialect : Dialect) → looked_up ping_opcode Sent dialect ≡ Known Ping 1
+ping_row : (dialect : Dialect) → looked_up ping_opcode Sent dialect ≡ Ok (with_words Ping 1)
 unfolding looked_up found_in rows row_serves pick
 ping_row Am17xx = refl
 ping_row Dm648 = refl

@@ -8,6 +8,8 @@ use native.Mathlib.Omega.{arith}
 use lib.Dec.{ltb, leb, lit<, lit≤}
 use lib.ListN.{length, get_or}
 use borrow.Author.Tests.{lt-leb, ltb-true, ltb-false}
+use Rattle.std.specs.declared.result.Result.{Result}
+use Rattle.std.specs.declared.result.Result.TheVariants.{Ok, Err}
 use Rattle.words.specs.rules.Bits.{bit, join, with_field}
 use Rattle.words.specs.rules.Bytes.{byte, number, bytes_at, word_at, put, fits, field_fits, field_written}
 use Rattle.words.specs.rules.Choice.{pick}
@@ -15,17 +17,17 @@ use Rattle.words.proofs.Choice.{chosen, by_test, both}
 use Rattle.checksum.specs.rules.Checksum as feeding
 use Rattle.windows.specs.rules.Map.{sound_window, all_sound, rising, good_map, kept_of}
 use Rattle.windows.specs.rules.Window.{has_right, inside, grants_range, place_from, place_of, sum_of}
-use Rattle.opcodes.specs.rules.Opcodes.{rows, row_serves, found_in, looked_up}
+use Rattle.opcodes.specs.rules.Opcodes.{rows, row_serves, found_in, looked_up, with_words}
 use Rattle.opcodes.specs.declared.Command.TheVariants.{SequentialRead}
 use Rattle.opcodes.specs.declared.Dialect.{Dialect}
 use Rattle.opcodes.specs.declared.Dialect.TheVariants.{Am17xx, Dm648}
 use Rattle.opcodes.specs.declared.Event.TheVariants.{Wait, Enter}
 use Rattle.opcodes.specs.declared.Mode.TheVariants.{Flash}
-use Rattle.opcodes.specs.declared.Refusal.TheVariants as refusal
+use Rattle.opcodes.specs.declared.Refusal.TheVariants as why
+use Rattle.opcodes.specs.declared.Known.{Known}
 use Rattle.ledger.specs.rules.Totals.{is_past, is_other, following}
-use Rattle.reading.specs.rules.Reading.{present, words_from, argument, read_as, read_at}
-use Rattle.reading.specs.declared.Read.{Read}
-use Rattle.reading.specs.declared.Read.TheVariants.{Whole, Refused}
+use Rattle.reading.specs.rules.Reading.{present, words_from, argument, read_as, read_at, unread}
+use Rattle.reading.specs.declared.Unread.{Unread}
 use Rattle.commands.specs.rules.Commands.{multiple, range_judged, load_judged, unit_of, units_judged, fill_judged, fill_done, entry_judged, close_done, target}
 use Rattle.commands.specs.rules.Commands.{fill_memory, sought_from, field_shape, shape_of, too_wide, setting_done, setting_memory}
 use Rattle.stores.specs.rules.Stores.{loaded, words_fed, load_fed, filled}
@@ -68,9 +70,9 @@ runs Am17xx = record { enters = refl; no_mismatch = refl; retried = refl; waits 
 runs Dm648 = record { enters = refl; no_mismatch = refl; retried = refl; waits = refl; set = refl; plain_bytes = refl; beyond_bytes = refl }
 
 -- is a command passed over by the host, as a Sequential Read is?
-abbrev is_passed : Read → Bool
-is_passed (Refused q fetched) = false
-is_passed (Whole command words) = by_role command true false false false
+abbrev is_passed : Result Known Unread → Bool
+is_passed (Err said) = false
+is_passed (Ok f) = by_role f.command true false false false
 
 -- none of the first n words of an image begins one
 unfoldable none_of : ℕ → Dialect → List ℕ → Bool
@@ -99,12 +101,12 @@ none_there (suc n) k dialect image small e =
 past_end : (k n : ℕ) (dialect : Dialect) (image : List ℕ) → length image ≡ 4 * n → n ≤ k → is_passed (read_at image (4 * k) dialect) ≡ false
 unfolding read_at present
 past_end k n dialect image long past =
-    ap is_passed (chosen (not (leb (4 * k + 4 * 1) (length image))) (Refused refusal.Missing 0)
+    ap is_passed (chosen (not (leb (4 * k + 4 * 1) (length image))) (Err (unread why.Missing 0))
     (read_as image (4 * k) (looked_up (word_at image (4 * k)) Flash dialect))
     (ap not (lt-leb (4 * k + 4 * 1) (length image) (omega arith))))
 
 none_at_all : (n : ℕ) (dialect : Dialect) (image : List ℕ) → length image ≡ 4 * n → none_of n dialect image ≡ true
-    → (k words : ℕ) → read_at image (4 * k) dialect ≢ Whole SequentialRead words
+    → (k words : ℕ) → read_at image (4 * k) dialect ≢ Ok (with_words SequentialRead words)
 none_at_all n dialect image long none k words e =
     true≢false
     (ap is_passed (sym e) ∙ by_test (ltb k n) (λ t. none_there n k dialect image (ltb-true k n t) none)

@@ -16,8 +16,8 @@ use Rattle.windows.specs.declared.Window.{Window}
 use Rattle.opcodes.specs.rules.Answers.{accepted, told}
 use Rattle.opcodes.specs.declared.Dialect.{Dialect}
 use Rattle.opcodes.specs.declared.Event.{Event}
-use Rattle.opcodes.specs.declared.Refusal.{Refusal}
-use Rattle.opcodes.specs.declared.Refusal.TheVariants as refusal
+use Rattle.opcodes.specs.rules.Refusals.{Verdict}
+use Rattle.opcodes.specs.rules.Refusals as refusal
 use Rattle.flash_session.specs.rules.Opening as flash
 use Rattle.flash_session.specs.rules.Opening.{good_length, magic}
 use Rattle.flash_session.specs.rules.Sessions.{CallOutcome}
@@ -153,7 +153,7 @@ module _ (line : OnTheLine) (bus : Bus) (dialect : Dialect) (count : ℕ) (windo
   loader_opens = passed _ _ _ (ap not premises.map)
 
   -- an opening that both refuse: the host has ended
-  module _ (q : Refusal) (fetched : ℕ) (wrong : accepted q ≡ false) (in-flash : flash_opening ≡ flash.refused_by q fetched)
+  module _ (q : Verdict) (fetched : ℕ) (wrong : accepted q ≡ false) (in-flash : flash_opening ≡ flash.refused_by q fetched)
       (by-host : host.opened_by bus dialect image tries limit pings ≡ host.refused_by q) where
     host_ended : (seen first).host.ended ≡ true
     host_ended =

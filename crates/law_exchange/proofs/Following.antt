@@ -1,5 +1,6 @@
 -- From the level of a flash session the host's next turns follow the call of flash: what is refused or passed over takes one turn, a command two, its opcode
 -- and then its words, and a mismatch one more for Start-Over.
+use Rattle.std.specs.Prelude.{Some, Ok, Err}
 use Prim.Native.Nat.{ℕ, suc, ◌+◌, ◌*◌, ◌/◌, ◌^◌, ◌≤◌, ◌<◌}
 use mathlib.Core.Bool.{true, false, true≢false, not, ◌&&◌, and-false}
 use mathlib.Core.List.{List, [], ◌++◌, append-nil}
@@ -9,6 +10,8 @@ use native.Mathlib.Omega.{arith}
 use lib.Dec.{leb, ltb, eqb, lit<}
 use lib.ListN.{length}
 use borrow.Author.Tests.{le-leb, lt-leb, le-ltb, lt-ltb, eq-eqb, ne_eqb, ltb-true, ltb-false, leb-true, leb-false, eqb-true, eqb-false}
+use Rattle.std.specs.declared.result.Result.{Result}
+use Rattle.std.specs.declared.result.Result.TheVariants.{Ok, Err}
 use Rattle.words.specs.rules.Bytes.{word_at}
 use Rattle.words.specs.rules.Choice.{pick}
 use Rattle.words.proofs.Choice.{chosen, passed, by_test}
@@ -20,17 +23,16 @@ use Rattle.opcodes.specs.declared.Dialect.{Dialect}
 use Rattle.opcodes.specs.declared.Dialect.TheVariants.{Am17xx, Dm648}
 use Rattle.opcodes.specs.declared.Event.{Event}
 use Rattle.opcodes.specs.declared.Mode.TheVariants.{Flash}
-use Rattle.opcodes.specs.declared.Refusal.{Refusal}
-use Rattle.opcodes.specs.declared.Refusal.TheVariants as refusal
+use Rattle.opcodes.specs.rules.Refusals.{Verdict}
+use Rattle.opcodes.specs.rules.Refusals as refusal
 use Rattle.opcodes.proofs.Counts.{row_is, row-is}
+use Rattle.opcodes.specs.rules.Opcodes.{with_words}
+use Rattle.opcodes.specs.declared.Known.{Known}
 use Rattle.reading.specs.rules.Reading.{past_words, argument, past_data, read_at}
-use Rattle.reading.specs.declared.Read.{Read}
-use Rattle.reading.specs.declared.Read.TheVariants as read
 use Rattle.reading.proofs.Reading as reading
 use Rattle.reading.proofs.Reading.{Reads, no_opcode, unknown, retired, cut_short, whole, whole_there}
-use Rattle.commands.specs.rules.Commands.{sought_from}
-use Rattle.commands.specs.declared.Sought.{Sought}
-use Rattle.commands.specs.declared.Sought.TheVariants as sought
+use Rattle.reading.specs.declared.Unread.{Unread}
+use Rattle.commands.specs.rules.Commands.{sought_from, Sought}
 use Rattle.flash_session.specs.rules.Opening.{good_length}
 use Rattle.flash_session.specs.rules.Sessions.{CallOutcome}
 use Rattle.flash.specs.rules.Step.{followed, step_of}
@@ -87,7 +89,7 @@ module _ (line : OnTheLine) (bus : Bus) (image : List ℕ) (tries pings : ℕ) (
   by_wait : (retries offset : ℕ) (w : Wait) (ear : Ear) → turned (at retries offset w ear) image ≡ turn.in_wait w (at retries offset w ear) image
   by_wait retries offset w ear = turned_at bus s.dialect image tries s.limit pings good retries offset 0 w ear
 
-  by_reading : (what : Read) → read_at image s.offset s.dialect ≡ what → turned here image ≡ met here image what
+  by_reading : (what : Result Known Unread) → read_at image s.offset s.dialect ≡ what → turned here image ≡ met here image what
   by_reading what e = by_wait s.retries s.offset wait.Nothing nothing_heard ∙ ap (met here image) e
 
   -- one turn
@@ -96,7 +98,7 @@ module _ (line : OnTheLine) (bus : Bus) (image : List ℕ) (tries pings : ℕ) (
   one_turn e = e
 
   -- the host refuses what the call refuses
-  refused_here : (q : Refusal) → turned here image ≡ answer.refused q here → Stopped m call → Followed bus image tries pings call es begin
+  refused_here : (q : Verdict) → turned here image ≡ answer.refused q here → Stopped m call → Followed bus image tries pings call es begin
   refused_here q said stopped =
       stopped_follows bus image tries pings call m es begin (scene (stop here) (at_word k m) es) 1 (omega arith)
       (one_turn (refused_turn image here (stop here) (at_word k m) es q said)) refl refl refl stopped
@@ -111,13 +113,13 @@ module _ (line : OnTheLine) (bus : Bus) (image : List ℕ) (tries pings : ℕ) (
       ∙ ap₂ (λ (g : Host) (fs : List Event). scene g y fs) (only_the_ear bytes (at retries offset w nothing_heard)) (append-nil es)
 
   -- a command that is whole, with its data
-  module _ (c : Command) (words : ℕ) (reads : read_at image s.offset s.dialect ≡ read.Whole c words)
+  module _ (c : Command) (words : ℕ) (reads : read_at image s.offset s.dialect ≡ Ok (with_words c words))
       (there : past_data c words image s.offset ≤ length image) where
     abbrev end : ℕ
     end = past_data c words image s.offset
 
     meets : turned here image ≡ met_to here image c end
-    meets = by_reading (read.Whole c words) reads ∙ passed _ _ _ (le-ltb _ _ there)
+    meets = by_reading (Ok (with_words c words)) reads ∙ passed _ _ _ (le-ltb _ _ there)
 
     -- its words go out as a stretch
     is-part : is_part image (s.offset + 4) end ≡ true
@@ -214,7 +216,7 @@ module _ (line : OnTheLine) (bus : Bus) (image : List ℕ) (tries pings : ℕ) (
           }
 
   -- Jump & Close
-  module _ (some : 1 ≤ tries) (words : ℕ) (reads : read_at image s.offset s.dialect ≡ read.Whole JumpAndClose words)
+  module _ (some : 1 ≤ tries) (words : ℕ) (reads : read_at image s.offset s.dialect ≡ Ok (with_words JumpAndClose words))
       (there : past_data JumpAndClose words image s.offset ≤ length image) (sent : CommandSent bus s m image k JumpAndClose words) where
     abbrev last : ℕ
     last = past_data JumpAndClose words image s.offset
@@ -223,10 +225,10 @@ module _ (line : OnTheLine) (bus : Bus) (image : List ℕ) (tries pings : ℕ) (
     close_stops : goes_on call.answer ≡ false
     unfolding step_of goes_on
     close_stops =
-        let called : call ≡ followed s m image (read.Whole JumpAndClose words) =
+        let called : call ≡ followed s m image (Ok (with_words JumpAndClose words)) =
         passed _ _ _ stands.running ∙ passed _ _ _ (ap not (eq-eqb (length m) (sum_of s.windows) stands.lent)) ∙ passed _ _ _ (ap not stands.sound)
         ∙ ap (followed s m image) reads in
-        ap (λ (o : CallOutcome). goes_on o.answer) called ∙ and-false (accepted (followed s m image (read.Whole JumpAndClose words)).answer.refusal)
+        ap (λ (o : CallOutcome). goes_on o.answer) called ∙ and-false (accepted (followed s m image (Ok (with_words JumpAndClose words))).answer.refusal)
 
     abbrev answered_close : Host
     answered_close = acknowledged_host JumpAndClose words reads there
@@ -299,7 +301,7 @@ module _ (line : OnTheLine) (bus : Bus) (image : List ℕ) (tries pings : ℕ) (
             followed_by _ arrives refl refl (closing_ends dm)
 
   -- a Request
-  module _ (words : ℕ) (reads : read_at image s.offset s.dialect ≡ read.Whole Request words)
+  module _ (words : ℕ) (reads : read_at image s.offset s.dialect ≡ Ok (with_words Request words))
       (there : past_data Request words image s.offset ≤ length image) (two : words ≡ 2) (sent : RequestSent bus s m image k) where
     abbrev past_request : ℕ
     past_request = past_data Request words image s.offset
@@ -333,7 +335,7 @@ module _ (line : OnTheLine) (bus : Bus) (image : List ℕ) (tries pings : ℕ) (
     two_from e = ap (advance image) request_out ∙ e
 
     -- refused, with the call
-    refused_request : (q : Refusal) → turned asking image ≡ answer.refused q asking → Stopped m call → Followed bus image tries pings call es begin
+    refused_request : (q : Verdict) → turned asking image ≡ answer.refused q asking → Stopped m call → Followed bus image tries pings call es begin
     refused_request q said stopped =
         stopped_follows bus image tries pings call m es begin (scene (stop asking) (at_word sent.asked m) es) 2 (omega arith)
         (two_from (refused_turn image asking (stop asking) (at_word sent.asked m) es q said)) refl refl refl stopped
@@ -368,20 +370,20 @@ module _ (line : OnTheLine) (bus : Bus) (image : List ℕ) (tries pings : ℕ) (
         over_heard offset =
             by_wait (s.retries + 1) s.offset (wait.Over offset) _ ∙ chosen _ _ _ (one_word_heard (acknowledged start_over) (acknowledged_small start_over))
 
-        goes_back : (offset : ℕ) → sought_from s.offset (argument image s.offset 1) ≡ sought.To offset → Followed bus image tries pings call es begin
+        goes_back : (offset : ℕ) → sought_from s.offset (argument image s.offset 1) ≡ Ok offset → Followed bus image tries pings call es begin
         unfolding turns
         goes_back offset e =
             let over = sent.back differ some_left offset e in
             let second = opcode_turn (s.retries + 1) s.offset asking (wait.Over offset) start_over (at_word sent.asked m) (at_word over.0 m) _ refl
-            (seeks (sought.To offset) e) over.1 in
+            (seeks (Ok offset) e) over.1 in
             let third = idle_turn image (over_at offset (heard_by nothing_heard (sent_bytes (one_word (acknowledged start_over)))))
             (at (s.retries + 1) offset wait.Nothing nothing_heard) (at_word over.0 m) es (over_heard offset) in
             on_follows bus image tries pings s call (line.keeps s m image) m es begin _ over.0 (s.retries + 1) offset 3 (omega arith)
             (ap (λ (y : Scene). advance image (advance image y)) request_out ∙ ap (advance image) second ∙ third) refl over.2
 
         sought_follows : (where_to : Sought) → sought_from s.offset (argument image s.offset 1) ≡ where_to → Followed bus image tries pings call es begin
-        sought_follows (sought.To offset) e = goes_back offset e
-        sought_follows (sought.Refused q) e = refused_request q (seeks (sought.Refused q) e) (sent.astray differ q e)
+        sought_follows (Ok offset) e = goes_back offset e
+        sought_follows (Err q) e = refused_request (Some q) (seeks (Err q) e) (sent.astray differ q e)
 
     request_follows : Followed bus image tries pings call es begin
     request_follows =
@@ -392,7 +394,7 @@ module _ (line : OnTheLine) (bus : Bus) (image : List ℕ) (tries pings : ℕ) (
         (λ left. sought_follows differ (leb-false _ _ left) _ refl))
 
   -- Sequential Read
-  passed_follows : (words : ℕ) → read_at image s.offset s.dialect ≡ read.Whole SequentialRead words
+  passed_follows : (words : ℕ) → read_at image s.offset s.dialect ≡ Ok (with_words SequentialRead words)
       → past_data SequentialRead words image s.offset ≤ length image → Followed bus image tries pings call es begin
   passed_follows words reads there =
       let over = line.passed_over bus s m image k stands words reads in
@@ -403,11 +405,11 @@ module _ (line : OnTheLine) (bus : Bus) (image : List ℕ) (tries pings : ℕ) (
       over.goes
 
   -- a Request has two words
-  abbrev TwoAsk : Read → Type 0
-  TwoAsk (read.Refused q n) = Unit {0}
-  TwoAsk (read.Whole c words) = c ≡ Request → words ≡ 2
+  abbrev TwoAsk : Result Known Unread → Type 0
+  TwoAsk (Err said) = Unit {0}
+  TwoAsk (Ok f) = f.command ≡ Request → f.words ≡ 2
 
-  two_ask : {what : Read} → Reads image s.offset s.dialect what → TwoAsk what
+  two_ask : {what : Result Known Unread} → Reads image s.offset s.dialect what → TwoAsk what
   unfolding row_is
   two_ask (no_opcode short) = tt
   two_ask (unknown there e) = tt
@@ -432,7 +434,7 @@ module _ (line : OnTheLine) (bus : Bus) (image : List ℕ) (tries pings : ℕ) (
   module _ (some : 1 ≤ tries) (words : ℕ) where
     -- what holds once a command is one that is known
     abbrev IfRead : Command → Type 0
-    IfRead c = read_at image s.offset s.dialect ≡ read.Whole c words → past_data c words image s.offset ≤ length image
+    IfRead c = read_at image s.offset s.dialect ≡ Ok (with_words c words) → past_data c words image s.offset ≤ length image
         → Followed bus image tries pings call es begin
 
     by-role : (c : Command) → Role c → IfRead c
@@ -453,20 +455,20 @@ module _ (line : OnTheLine) (bus : Bus) (image : List ℕ) (tries pings : ℕ) (
         number same
 
     -- its data are not there
-    without_data : (c : Command) → read_at image s.offset s.dialect ≡ read.Whole c words → length image < past_data c words image s.offset
+    without_data : (c : Command) → read_at image s.offset s.dialect ≡ Ok (with_words c words) → length image < past_data c words image s.offset
         → Followed bus image tries pings call es begin
     without_data c reads short =
-        refused_here refusal.Missing (by_reading (read.Whole c words) reads ∙ chosen _ _ _ (lt-ltb _ _ short))
+        refused_here refusal.Missing (by_reading (Ok (with_words c words)) reads ∙ chosen _ _ _ (lt-ltb _ _ short))
         (subst
-        (λ (d : Command). read_at image s.offset s.dialect ≡ read.Whole d words → length image < past_data d words image s.offset → Stopped m call)
+        (λ (d : Command). read_at image s.offset s.dialect ≡ Ok (with_words d words) → length image < past_data d words image s.offset → Stopped m call)
         (sym (missing_load c words (whole_there image s.offset s.dialect reads) short)) (line.data_missing s m image k stands words) reads short)
 
   -- whatever stands there
-  follow_at : 1 ≤ tries → (what : Read) → read_at image s.offset s.dialect ≡ what → Followed bus image tries pings call es begin
-  follow_at some (read.Refused q n) e = refused_here q (by_reading (read.Refused q n) e) (line.not_read s m image k stands q n e)
-  follow_at some (read.Whole c words) e =
-      by_test (ltb (length image) (past_data c words image s.offset)) (λ short. without_data some words c e (ltb-true _ _ short))
-      (λ there. by-role some words c (role_of c) e (ltb-false _ _ there))
+  follow_at : 1 ≤ tries → (what : Result Known Unread) → read_at image s.offset s.dialect ≡ what → Followed bus image tries pings call es begin
+  follow_at some (Err said) e = refused_here (Some said.refusal) (by_reading (Err said) e) (line.not_read s m image k stands said.refusal said.fetched e)
+  follow_at some (Ok f) e =
+      by_test (ltb (length image) (past_data f.command f.words image s.offset)) (λ short. without_data some f.words f.command e (ltb-true _ _ short))
+      (λ there. by-role some f.words f.command (role_of f.command) e (ltb-false _ _ there))
 
 -- from the level of a session, its call is followed
 pub follows : (line : OnTheLine) (bus : Bus) (image : List ℕ) (tries pings : ℕ) → good_length (length image) ≡ true → 1 ≤ tries

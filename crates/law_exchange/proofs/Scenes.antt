@@ -9,8 +9,8 @@ use lib.ListN.{length}
 use borrow.Author.Tests.{eq-eqb}
 use Rattle.words.proofs.Choice.{chosen, passed}
 use Rattle.opcodes.specs.declared.Event.{Event}
-use Rattle.opcodes.specs.declared.Refusal.{Refusal}
-use Rattle.opcodes.specs.declared.Refusal.TheVariants as refusal
+use Rattle.opcodes.specs.rules.Refusals.{Verdict}
+use Rattle.opcodes.specs.rules.Refusals as refusal
 use Rattle.flash_session.specs.rules.Opening.{good_length}
 use Rattle.sent.specs.rules.Feeding.{State, Heard, fed, answers, replied, events_heard}
 use Rattle.sent.specs.declared.Bus.{Bus}
@@ -101,7 +101,7 @@ module _ (image : List ℕ) where
       by_turn h h' x x es [] [] sending.Nothing said (nothing_carried h.bus x) ∙ ap (λ (fs : List Event). scene h' x fs) (append-nil es)
 
   -- a refused turn
-  pub refused_turn : (h h' : Host) (x : State) (es : List Event) (q : Refusal) → turned h image ≡ answer.unchanged q h' → advance (scene h x es) ≡ scene h' x es
+  pub refused_turn : (h h' : Host) (x : State) (es : List Event) (q : Verdict) → turned h image ≡ answer.unchanged q h' → advance (scene h x es) ≡ scene h' x es
   unfolding heard_all fed answers replied events_heard
   refused_turn h h' x es q said =
       ap (λ (t : Turned). played t (scene h x es)) said ∙ ap (λ (fs : List Event). scene h' x fs) (append-nil es)

@@ -1,5 +1,6 @@
 -- Once the loader has ended it says nothing more, and the host comes to its end soon: it passes over what is no opcode to send, and then spends the tries of
 -- one wait.
+use Rattle.std.specs.Prelude.{Some}
 use Prim.Native.Nat.{ℕ, zero, suc, ◌+◌, ◌-◌, ◌*◌, ◌≤◌, ◌<◌}
 use mathlib.Core.Bool.{true}
 use mathlib.Core.List.{List}
@@ -9,16 +10,19 @@ use native.Mathlib.Nat.{zero-add, suc-add}
 use lib.Dec.{leb, ltb}
 use lib.ListN.{length}
 use borrow.Author.Tests.{le-leb, lt-leb, le-ltb, leb-true, leb-false, ltb-false}
+use Rattle.std.specs.declared.result.Result.{Result}
+use Rattle.std.specs.declared.result.Result.TheVariants.{Ok, Err}
 use Rattle.words.specs.rules.Choice.{pick}
 use Rattle.words.proofs.Choice.{chosen, passed, by_test}
 use Rattle.opcodes.specs.declared.Command.{Command}
 use Rattle.opcodes.specs.declared.Command.TheVariants.{Load, Fill, BootTable, Enable, Disable, Request, StartOver, JumpAndClose, Ping, SequentialRead}
 use Rattle.opcodes.specs.declared.Dialect.{Dialect}
 use Rattle.opcodes.specs.declared.Event.{Event}
-use Rattle.opcodes.specs.declared.Refusal.TheVariants as refusal
+use Rattle.opcodes.specs.rules.Refusals as refusal
+use Rattle.opcodes.specs.rules.Opcodes.{with_words}
+use Rattle.opcodes.specs.declared.Known.{Known}
 use Rattle.reading.specs.rules.Reading.{past_data, read_at}
-use Rattle.reading.specs.declared.Read.{Read}
-use Rattle.reading.specs.declared.Read.TheVariants as read
+use Rattle.reading.specs.declared.Unread.{Unread}
 use Rattle.flash_session.specs.rules.Opening.{good_length}
 use Rattle.machine_answers.specs.rules.Replies.{one_word}
 use Rattle.sent.specs.rules.Feeding.{State}
@@ -126,13 +130,14 @@ module _ (bus : Bus) (dialect : Dialect) (image : List ℕ) (tries limit pings :
       leads_on ear n o y said rest = ap (λ (z : Scene). (turns image n z).host.ended) said ∙ rest
 
       -- what the turn is, by what stands there
-      by_reading : (ear : Ear) (o : ℕ) (what : Read) → read_at image o dialect ≡ what → turned (before ear o) image ≡ met (before ear o) image what
+      by_reading : (ear : Ear) (o : ℕ) (what : Result Known Unread) → read_at image o dialect ≡ what
+          → turned (before ear o) image ≡ met (before ear o) image what
       by_reading ear o what e =
           turned_at bus dialect image tries limit pings good r o 0 wait.Nothing ear ∙ ap (met (before ear o) image) e
 
-      whole_there : (ear : Ear) (o words : ℕ) (c : Command) → read_at image o dialect ≡ read.Whole c words → past_data c words image o ≤ length image
+      whole_there : (ear : Ear) (o words : ℕ) (c : Command) → read_at image o dialect ≡ Ok (with_words c words) → past_data c words image o ≤ length image
           → turned (before ear o) image ≡ met_to (before ear o) image c (past_data c words image o)
-      whole_there ear o words c e there = by_reading ear o (read.Whole c words) e ∙ passed _ _ _ (le-ltb _ _ there)
+      whole_there ear o words c e there = by_reading ear o (Ok (with_words c words)) e ∙ passed _ _ _ (le-ltb _ _ there)
 
       -- its opcode goes out, and the tries are spent on it
       in_vain : (ear : Ear) (n o end : ℕ) (c : Command) → tries ≤ n → turned (before ear o) image ≡ answer.enters (wait.Opcode c end) (before ear o) image
@@ -161,17 +166,18 @@ module _ (bus : Bus) (dialect : Dialect) (image : List ℕ) (tries limit pings :
       by-role ear n o end c enough later said (goes e same) = in_vain ear n o end c enough (said ∙ same _ _ _ _)
 
       one_more : (ear : Ear) (n o : ℕ) → tries ≤ n → ((end : ℕ) → o + 4 ≤ end → end ≤ length image → Ends n (here nothing_heard end))
-          → (what : Read) → read_at image o dialect ≡ what → Ends (suc n) (here ear o)
-      one_more ear n o enough later (read.Refused q k) e =
-          at_once ear n o (stop (before ear o)) refl (refused_turn image _ _ x es q (by_reading ear o (read.Refused q k) e))
-      one_more ear n o enough later (read.Whole c words) e =
-          by_test (ltb (length image) (past_data c words image o))
+          → (what : Result Known Unread) → read_at image o dialect ≡ what → Ends (suc n) (here ear o)
+      one_more ear n o enough later (Err said) e =
+          at_once ear n o (stop (before ear o)) refl (refused_turn image _ _ x es (Some said.refusal) (by_reading ear o (Err said) e))
+      one_more ear n o enough later (Ok f) e =
+          by_test (ltb (length image) (past_data f.command f.words image o))
           (λ missing. at_once ear n o (stop (before ear o)) refl
-          (refused_turn image _ _ x es refusal.Missing (by_reading ear o (read.Whole c words) e ∙ chosen _ _ _ missing)))
+          (refused_turn image _ _ x es refusal.Missing (by_reading ear o (Ok f) e ∙ chosen _ _ _ missing)))
           (λ there.
           let inside = ltb-false _ _ there in
-          by-role ear n o (past_data c words image o) c enough (later (past_data c words image o) (omega arith) inside) (whole_there ear o words c e inside)
-          (role_of c))
+          by-role ear n o (past_data f.command f.words image o) f.command enough
+          (later (past_data f.command f.words image o) (omega arith) inside) (whole_there ear o f.words f.command e inside)
+          (role_of f.command))
 
       -- the host ends within the words that are left, and the tries of a wait
       pub meets_end : (ear : Ear) (n o : ℕ) → length image ≤ o + 4 * n → Ends (n + 1 + tries) (here ear o)

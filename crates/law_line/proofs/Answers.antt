@@ -1,5 +1,6 @@
 -- What the last word of a command answers, whatever was judged: refused it ends the session; accepted it goes on at an opcode and says nothing, or it is a
 -- close, which ends the session and says the farewell. By the definition of each command.
+use Rattle.std.specs.Prelude.{Ok, Err}
 use Prim.Native.Nat.{ℕ}
 use mathlib.Core.Bool.{Bool, true, false, true≢false}
 use mathlib.Core.List.{List, [], ◌∷◌}
@@ -14,14 +15,12 @@ use Rattle.opcodes.specs.declared.Command.TheVariants as command
 use Rattle.opcodes.specs.declared.Dialect.{Dialect}
 use Rattle.opcodes.specs.declared.Event.{Event}
 use Rattle.opcodes.specs.declared.Event.TheVariants as event
-use Rattle.opcodes.specs.declared.Refusal.{Refusal}
-use Rattle.opcodes.specs.declared.Refusal.TheVariants.{None}
+use Rattle.opcodes.specs.rules.Refusals.{Verdict}
+use Rattle.opcodes.specs.rules.Refusals.{None}
 use Rattle.ledger.specs.declared.Totals.{Totals}
-use Rattle.commands.specs.rules.Commands.{done_if, fill_done, setting_done}
+use Rattle.commands.specs.rules.Commands.{done_if, fill_done, setting_done, Judged}
 use Rattle.commands.specs.rules.Wrote.{none_wrote}
 use Rattle.commands.specs.declared.Done.{Done}
-use Rattle.commands.specs.declared.Judged.{Judged}
-use Rattle.commands.specs.declared.Judged.TheVariants.{Granted, Refused}
 use Rattle.commands.specs.declared.Wrote.{Wrote}
 use Rattle.machine_answers.specs.rules.Answers.{WordOutcome, await, refused, writing, ◌leaving◌, after, entered}
 use Rattle.machine_commands.specs.rules.Performed.{performed}
@@ -46,7 +45,7 @@ pub record Answered (dialect : Dialect) (o : WordOutcome) : Type 0 where
   pub says : Says dialect o
 
 -- a refused word
-pub refused_answered : (dialect : Dialect) (wrote : Wrote) (k : Core) (q : Refusal) (m : List ℕ) → Answered dialect (writing wrote (refused k q) leaving m)
+pub refused_answered : (dialect : Dialect) (wrote : Wrote) (k : Core) (q : Verdict) (m : List ℕ) → Answered dialect (writing wrote (refused k q) leaving m)
 refused_answered dialect wrote k q m =
     record { awaits = λ e running. absurd (true≢false running); says = silently refl (λ z. omega arith) }
 
@@ -65,7 +64,7 @@ unfolding entered pick
 entered_answered k tally told m =
     record { awaits = λ e running. absurd (true≢false running); says = closing (λ e. (refl, refl)) (λ e. refl) }
 
-kept_out_answered : (k : Core) (q : Refusal) (m : List ℕ) → accepted q ≡ false → Answered k.dialect (entered (refused k q) leaving m)
+kept_out_answered : (k : Core) (q : Verdict) (m : List ℕ) → accepted q ≡ false → Answered k.dialect (entered (refused k q) leaving m)
 unfolding entered
 kept_out_answered k q m e =
     subst (λ (t : Taken). Answered k.dialect (t leaving m)) (sym (passed _ _ _ e)) (refused_answered k.dialect none_wrote k q m)
@@ -78,8 +77,8 @@ close_answered k totals done m =
 
 -- no fill and no setting enters
 done_kind : (j : Judged) (checksum fed : ℕ) (told : Event) → kind_of told ≢ 3 → kind_of (done_if j checksum told fed).event ≢ 3
-done_kind (Granted place) checksum fed told other = other
-done_kind (Refused q) checksum fed told other = λ z. omega arith
+done_kind (Ok place) checksum fed told other = other
+done_kind (Err q) checksum fed told other = λ z. omega arith
 
 fill_kind : (j : Judged) (on : Bool) (checksum address size kind pattern : ℕ) → kind_of (fill_done j on checksum address size kind pattern).event ≢ 3
 unfolding fill_done

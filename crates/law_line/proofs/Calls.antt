@@ -1,5 +1,6 @@
 -- What a flash call is, seen from its answer: what was read at the offset decides it, a call that goes on is accepted and running, and one that does so past a
 -- command is past all its words. By the cases of a call and by the law of every call.
+use Rattle.std.specs.Prelude.{Some, Ok, Err}
 use Prim.Native.Nat.{ℕ, ◌+◌, ◌*◌, ◌<◌}
 use mathlib.Core.Bool.{true, false, not, ◌&&◌, and-false}
 use mathlib.Core.List.{List}
@@ -9,26 +10,27 @@ use native.Mathlib.Omega.{arith}
 use lib.Dec.{eqb}
 use lib.ListN.{length}
 use borrow.Author.Tests.{eqb-true, not-true, not-false}
+use Rattle.std.specs.declared.result.Result.{Result}
+use Rattle.std.specs.declared.result.Result.TheVariants.{Ok, Err}
 use Rattle.words.specs.rules.Bytes.{word_at}
 use Rattle.words.proofs.Choice.{both}
 use Rattle.windows.specs.rules.Window.{sum_of}
 use Rattle.opcodes.specs.rules.Answers.{code_of, accepted}
-use Rattle.opcodes.specs.rules.Opcodes.{looked_up}
+use Rattle.opcodes.specs.rules.Opcodes.{looked_up, with_words}
 use Rattle.opcodes.specs.declared.Command.{Command}
 use Rattle.opcodes.specs.declared.Command.TheVariants as command
 use Rattle.opcodes.specs.declared.Dialect.{Dialect}
-use Rattle.opcodes.specs.declared.Found.TheVariants.{Known}
 use Rattle.opcodes.specs.declared.Mode.TheVariants.{Flash}
 use Rattle.opcodes.specs.declared.Refusal.{Refusal}
-use Rattle.opcodes.specs.declared.Refusal.TheVariants as refusal
+use Rattle.opcodes.specs.rules.Refusals.{Verdict}
+use Rattle.opcodes.specs.rules.Refusals as refusal
 use Rattle.opcodes.proofs.Counts.{row_is, row-is}
-use Rattle.reading.specs.rules.Reading.{past_words, argument, data_words, data_size, past_data, read_at}
-use Rattle.reading.specs.declared.Read.{Read}
-use Rattle.reading.specs.declared.Read.TheVariants as read
+use Rattle.opcodes.specs.declared.Known.{Known}
+use Rattle.opcodes.proofs.Rows.{same_command, same_words}
+use Rattle.reading.specs.rules.Reading.{past_words, argument, data_words, data_size, past_data, read_at, unread}
 use Rattle.reading.proofs.Reading.{lacking, Reads, no_opcode, unknown, retired, cut_short, whole, reads}
-use Rattle.commands.specs.rules.Commands.{load_judged}
-use Rattle.commands.specs.declared.Judged.{Judged}
-use Rattle.commands.specs.declared.Judged.TheVariants.{Granted, Refused}
+use Rattle.reading.specs.declared.Unread.{Unread}
+use Rattle.commands.specs.rules.Commands.{load_judged, Judged}
 use Rattle.flash_commands.specs.claims.Ways.{data_words_of, Way, forward, back, kept}
 use Rattle.flash_session.specs.rules.Opening.{good_length}
 use Rattle.flash_session.specs.rules.Sessions.{CallOutcome, ◌leaving◌, fetching, stopped}
@@ -48,18 +50,19 @@ use Rattle.law_line.proofs.Checksum.{checksum_small}
 
 -- what is read is what the table says
 module _ (image : List ℕ) (offset : ℕ) (dialect : Dialect) where
-  abbrev Rowed : Read → Type 0
-  Rowed (read.Whole c words) = looked_up (word_at image offset) Flash dialect ≡ Known c words
-  Rowed (read.Refused q fetched) = Unit {0}
+  abbrev Rowed : Result Known Unread → Type 0
+  Rowed (Ok f) = looked_up (word_at image offset) Flash dialect ≡ Ok f
+  Rowed (Err said) = Unit {0}
 
-  rowed : {r : Read} → Reads image offset dialect r → Rowed r
+  rowed : {r : Result Known Unread} → Reads image offset dialect r → Rowed r
   rowed (no_opcode short) = tt
   rowed (unknown here e) = tt
   rowed (retired here e) = tt
   rowed (cut_short here e short) = tt
   rowed (whole e long) = e
 
-  pub known_row : {c : Command} {words : ℕ} → read_at image offset dialect ≡ read.Whole c words → looked_up (word_at image offset) Flash dialect ≡ Known c words
+  pub known_row : {c : Command} {words : ℕ} → read_at image offset dialect ≡ Ok (with_words c words)
+      → looked_up (word_at image offset) Flash dialect ≡ Ok (with_words c words)
   known_row e = subst Rowed e (rowed (reads image offset dialect))
 
 -- a call that goes on, and one that does not
@@ -72,7 +75,7 @@ goes_means a e =
 pub stops_means : (a : Called) → goes_on a ≡ false → code_of a.refusal ≡ 0 → a.session.ended ≡ true
 stops_means a e none = not-false _ (sym (accepted_goes a none) ∙ e)
 
-pub stopped_stops : (q : Refusal) (s : Session) (m : List ℕ) → Stopped m (stopped q s leaving m)
+pub stopped_stops : (q : Verdict) (s : Session) (m : List ℕ) → Stopped m (stopped q s leaving m)
 unfolding goes_on
 stopped_stops q s m = record { stops = and-false (accepted q); no_event = refl; memory = refl }
 
@@ -84,25 +87,25 @@ call_keeps s m image =
 
 -- a call that goes on at a command, not a Request, is past its words
 past-words : {s : Session} {image : List ℕ} {a : Called} {c : Command} {words : ℕ} → Way s image a
-    → looked_up (word_at image s.offset) Flash s.dialect ≡ Known c words → c ≢ command.Request → goes_on a ≡ true
+    → looked_up (word_at image s.offset) Flash s.dialect ≡ Ok (with_words c words) → c ≢ command.Request → goes_on a ≡ true
     → (a.session.offset ≡ past_data c words image s.offset) × (a.session.retries ≡ s.retries)
 past-words {s} {image} {a} {c} {words} (forward f) known other on =
-    let same : Known f.command f.reads.arguments ≡ Known c words = sym f.reads.row ∙ known in
-    let command-is : f.command ≡ c = cc in
-    let words_are : f.reads.arguments ≡ words = cc in
+    let same : ◌≡◌ {A = Result Known Refusal} (Ok (with_words f.command f.reads.arguments)) (Ok (with_words c words)) = sym f.reads.row ∙ known in
+    let command-is : f.command ≡ c = same_command same in
+    let words_are : f.reads.arguments ≡ words = same_words same in
     let size : data_words_of f.command s image ≡ data_words (data_size c image s.offset) =
     ap (λ (x : Command). data_words (data_size x image s.offset)) command-is in
     let count = f.reads.count in
     let past = f.offset in
     (omega arith, f.retries)
 past-words {s} {image} {a} {c} {words} (back b) known other on =
-    let same : Known command.Request b.reads.arguments ≡ Known c words = sym b.reads.row ∙ known in
-    let asks : c ≡ command.Request = cc in
+    let same : ◌≡◌ {A = Result Known Refusal} (Ok (with_words command.Request b.reads.arguments)) (Ok (with_words c words)) = sym b.reads.row ∙ known in
+    let asks : c ≡ command.Request = sym (same_command same) in
     absurd (other asks)
 past-words (kept r) known other on = absurd (r.refused (goes_means _ on).0)
 
 module _ {s : Session} {m image : List ℕ} {k : Core} (standing : Standing s m image k) where
-  pub goes_past : {c : Command} {words : ℕ} → looked_up (word_at image s.offset) Flash s.dialect ≡ Known c words → c ≢ command.Request
+  pub goes_past : {c : Command} {words : ℕ} → looked_up (word_at image s.offset) Flash s.dialect ≡ Ok (with_words c words) → c ≢ command.Request
       → goes_on (step_of s m image).answer ≡ true
       → ((step_of s m image).answer.session.offset ≡ past_data c words image s.offset) × ((step_of s m image).answer.session.retries ≡ s.retries)
   goes_past known other on = past-words (every_call s m image).way known other on
@@ -123,20 +126,20 @@ module _ {s : Session} {m image : List ℕ} {k : Core} (standing : Standing s m 
       }
 
   -- a call by what is read
-  pub reads_call : {r : Read} → read_at image s.offset s.dialect ≡ r → step_of s m image ≡ followed s m image r
+  pub reads_call : {r : Result Known Unread} → read_at image s.offset s.dialect ≡ r → step_of s m image ≡ followed s m image r
   reads_call e = call_read s m image standing.running standing.lent standing.sound ∙ ap (followed s m image) e
 
-  pub nothing_read : (q : Refusal) (fetched : ℕ) → read_at image s.offset s.dialect ≡ read.Refused q fetched → Stopped m (step_of s m image)
-  nothing_read q fetched e = subst (Stopped m) (sym (reads_call e)) (stopped_stops q (fetching fetched s) m)
+  pub nothing_read : (q : Refusal) (fetched : ℕ) → read_at image s.offset s.dialect ≡ Err (unread q fetched) → Stopped m (step_of s m image)
+  nothing_read q fetched e = subst (Stopped m) (sym (reads_call e)) (stopped_stops (Some q) (fetching fetched s) m)
 
   -- a load whose data are missing
   load_stops : (x : Session) (next address size : ℕ) (j : Judged) → length image < next + 4 * data_words size
       → Stopped m (load_judged_as x m image next address size j)
-  load_stops x next address size (Granted place) short =
+  load_stops x next address size (Ok place) short =
       subst (Stopped m) (sym (load_short x m image next address size place (lacking image next (data_words size) short))) (stopped_stops refusal.Missing x m)
-  load_stops x next address size (Refused q) short = stopped_stops q x m
+  load_stops x next address size (Err q) short = stopped_stops (Some q) x m
 
-  pub no_data : (words : ℕ) → read_at image s.offset s.dialect ≡ read.Whole command.Load words
+  pub no_data : (words : ℕ) → read_at image s.offset s.dialect ≡ Ok (with_words command.Load words)
       → length image < past_data command.Load words image s.offset → Stopped m (step_of s m image)
   no_data words e short =
       let x = fetching (1 + words) s in
@@ -174,7 +177,7 @@ module _ {s : Session} {m image : List ℕ} {k : Core} (standing : Standing s m 
         };
       }
 
-  pub over_read : (words : ℕ) → read_at image s.offset s.dialect ≡ read.Whole command.SequentialRead words
+  pub over_read : (words : ℕ) → read_at image s.offset s.dialect ≡ Ok (with_words command.SequentialRead words)
       → (words ≡ 0) × GoesOnAt m image (step_of s m image) (s.offset + 4) s.retries k
   unfolding row_is
   over_read words e =

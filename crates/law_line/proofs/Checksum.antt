@@ -1,9 +1,12 @@
 -- The checksum of a flash session stays below 2^32: a call leaves it, makes it 0, or feeds words to it, and what words feed is below 2^32.
+use Rattle.std.specs.Prelude.{Ok, Err}
 use Prim.Native.Nat.{ℕ, zero, suc, ◌+◌, ◌*◌, ◌^◌, ◌<◌}
 use mathlib.Core.Bool.{Bool}
 use mathlib.Core.List.{List, [], ◌∷◌}
 use lib.Dec.{lit<}
 use lib.ListN.{length, take, drop}
+use Rattle.std.specs.declared.result.Result.{Result}
+use Rattle.std.specs.declared.result.Result.TheVariants.{Ok, Err}
 use Rattle.words.specs.rules.Bytes.{number}
 use Rattle.words.proofs.Choice.{of_choice}
 use Rattle.checksum.specs.rules.Checksum.{fed}
@@ -12,17 +15,13 @@ use Rattle.opcodes.specs.declared.Command.{Command}
 use Rattle.opcodes.specs.declared.Command.TheVariants as command
 use Rattle.opcodes.specs.declared.Event.{Event}
 use Rattle.opcodes.specs.declared.Event.TheVariants.{Nothing, Wait, Enter}
+use Rattle.opcodes.specs.declared.Known.{Known}
 use Rattle.ledger.specs.declared.Happening.{Happening}
 use Rattle.reading.specs.rules.Reading.{argument, read_at}
-use Rattle.reading.specs.declared.Read.{Read}
-use Rattle.reading.specs.declared.Read.TheVariants as read
+use Rattle.reading.specs.declared.Unread.{Unread}
 use Rattle.stores.specs.rules.Stores.{words_fed, load_fed}
-use Rattle.commands.specs.rules.Commands.{load_judged, done_if, fill_done, setting_done, close_done, sought_from}
+use Rattle.commands.specs.rules.Commands.{load_judged, done_if, fill_done, setting_done, close_done, sought_from, Judged, Sought}
 use Rattle.commands.specs.declared.Done.{Done}
-use Rattle.commands.specs.declared.Judged.{Judged}
-use Rattle.commands.specs.declared.Judged.TheVariants.{Granted, Refused}
-use Rattle.commands.specs.declared.Sought.{Sought}
-use Rattle.commands.specs.declared.Sought.TheVariants as sought
 use Rattle.commands.specs.declared.Wrote.{Wrote}
 use Rattle.flash_session.specs.rules.Sessions.{CallOutcome, fetching, after}
 use Rattle.flash_commands.specs.rules.Commands.{overflowing, sought_as, requested}
@@ -47,8 +46,8 @@ load_fed_small r address bytes h = words_fed_small _ _ bytes (fed_words_lt r _ h
 
 -- what a command that was judged leaves
 done_small : (j : Judged) (checksum fed : ℕ) (told : Event) → IsWord checksum → IsWord fed → IsWord (done_if j checksum told fed).checksum
-done_small (Granted place) checksum fed told h f = f
-done_small (Refused q) checksum fed told h f = h
+done_small (Ok place) checksum fed told h f = f
+done_small (Err q) checksum fed told h f = h
 
 module _ (j : Judged) (checksum : ℕ) (h : IsWord checksum) where
   fill_small : (on : Bool) (address size kind pattern : ℕ) → IsWord (fill_done j on checksum address size kind pattern).checksum
@@ -79,13 +78,13 @@ module _ (s : Session) (h : IsWord s.checksum) where
 
   load_small : (m image : List ℕ) (next address size : ℕ) (j : Judged) → SmallIn (load_judged_as s m image next address size j)
   unfolding load_at
-  load_small m image next address size (Granted place) =
+  load_small m image next address size (Ok place) =
       of_choice SmallIn _ (λ e. h) (λ e. of_choice SmallIn _ (λ e. h) (λ e. of_choice IsWord s.on (λ on. load_fed_small _ _ _ h) (λ off. h)))
-  load_small m image next address size (Refused q) = h
+  load_small m image next address size (Err q) = h
 
   sought_small : (led : Sought) → Small (sought_as s led)
-  sought_small (sought.To offset) = lit< tt
-  sought_small (sought.Refused q) = lit< tt
+  sought_small (Ok offset) = lit< tt
+  sought_small (Err q) = lit< tt
 
   performed_small : (c : Command) (next : ℕ) (m image : List ℕ) → SmallIn (performed c next s m image)
   unfolding requested
@@ -106,9 +105,9 @@ module _ (s : Session) (h : IsWord s.checksum) where
 
 -- a call
 module _ (s : Session) (m image : List ℕ) (h : IsWord s.checksum) where
-  followed_small : (r : Read) → SmallIn s h (followed s m image r)
-  followed_small (read.Refused q fetched) = h
-  followed_small (read.Whole c words) = performed_small (fetching (1 + words) s) h c _ m image
+  followed_small : (r : Result Known Unread) → SmallIn s h (followed s m image r)
+  followed_small (Err said) = h
+  followed_small (Ok f) = performed_small (fetching (1 + f.words) s) h f.command _ m image
 
   pub checksum_small : IsWord (step_of s m image).answer.session.checksum
   unfolding step_of

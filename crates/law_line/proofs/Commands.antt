@@ -9,15 +9,15 @@ use native.Mathlib.Omega.{arith}
 use lib.Dec.{eqb}
 use lib.ListN.{length}
 use borrow.Author.Tests.{eqb-true, eqb-false}
+use Rattle.std.specs.declared.result.Result.TheVariants.{Ok}
 use Rattle.words.specs.rules.Bytes.{bytes_at, word_at}
 use Rattle.words.specs.rules.Choice.{pick}
 use Rattle.words.proofs.Choice.{by_test}
 use Rattle.windows.specs.rules.Window.{sum_of}
 use Rattle.opcodes.specs.rules.Answers.{code_of, kind_of, told}
-use Rattle.opcodes.specs.rules.Opcodes.{looked_up}
+use Rattle.opcodes.specs.rules.Opcodes.{looked_up, with_words}
 use Rattle.opcodes.specs.declared.Command.{Command}
 use Rattle.opcodes.specs.declared.Command.TheVariants as command
-use Rattle.opcodes.specs.declared.Found.TheVariants.{Known}
 use Rattle.opcodes.specs.declared.Mode.TheVariants.{Flash, Sent}
 use Rattle.reading.specs.rules.Reading.{past_words, data_words, data_size, past_data}
 use Rattle.flash_session.specs.rules.Sessions as flash
@@ -62,7 +62,7 @@ acknowledged_quiet opcode k m = refl
 
 -- a command of an image that is sent with its words: its row, and what it is not
 pub record Sendable (s : Session) (image : List ℕ) (c : Command) (words : ℕ) : Type 0 where
-  pub known : looked_up (word_at image s.offset) Flash s.dialect ≡ Known c words
+  pub known : looked_up (word_at image s.offset) Flash s.dialect ≡ Ok (with_words c words)
   pub no_request : c ≢ command.Request
   pub no_read : c ≢ command.SequentialRead
 
@@ -215,8 +215,8 @@ module _ (bus : Bus) {s : Session} {m image : List ℕ} {k : Core} (standing : S
     abbrev asked : Core
     asked = asking (begun c k) c (suc (length more)) none_kept
 
-    in_sent : looked_up opcode Sent k.dialect ≡ Known c (suc (length more))
-    in_sent = (rows row).in_sent ∙ ap (λ (n : ℕ). Known c (suc n)) (sym (words_length image left (s.offset + 4 + 4)))
+    in_sent : looked_up opcode Sent k.dialect ≡ Ok (with_words c (suc (length more)))
+    in_sent = (rows row).in_sent ∙ ap (λ (n : ℕ). Ok (with_words c (suc n))) (sym (words_length image left (s.offset + 4 + 4)))
 
     step : word_step k m opcode ≡ said (one_word (acknowledged opcode)) asked leaving m
     step = opcode_asks k m opcode (length more) standing.awaits in_sent

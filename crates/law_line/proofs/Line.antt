@@ -7,12 +7,12 @@ use mathlib.Core.Path.{◌≡◌, refl, sym, ap, subst, ◌∙◌}
 use native.Mathlib.Omega.{arith}
 use lib.ListN.{length}
 use borrow.Author.Tests.{eqb-true}
-use Rattle.opcodes.specs.rules.Opcodes.{by_writing}
+use Rattle.std.specs.declared.result.Result.TheVariants.{Ok}
+use Rattle.opcodes.specs.rules.Opcodes.{with_words, by_writing}
 use Rattle.opcodes.specs.declared.Command.{Command}
 use Rattle.opcodes.specs.declared.Command.TheVariants as command
 use Rattle.opcodes.specs.declared.Dialect.{Dialect}
 use Rattle.opcodes.specs.declared.Dialect.TheVariants.{Am17xx, Dm648}
-use Rattle.opcodes.specs.declared.Found.TheVariants.{Known}
 use Rattle.opcodes.specs.declared.Mode.TheVariants.{Flash}
 use Rattle.opcodes.proofs.Counts.{row_is, row-is}
 use Rattle.reading.specs.rules.Reading.{past_data}
@@ -91,7 +91,7 @@ on_the_line =
           let known = known_row image s.offset s.dialect e in
           let two : words ≡ 2 = eqb-true words 2 (row-is Flash s.dialect _ command.Request words known) in
           let there = whole_there image s.offset s.dialect e in
-          request-sent bus standing (known ∙ ap (Known command.Request) two) (omega arith);
+          request-sent bus standing (known ∙ ap (λ (n : ℕ). Ok (with_words command.Request n)) two) (omega arith);
       passed_over = λ bus s m image k standing words e. record { no_words = (over_read standing words e).0; goes = (over_read standing words e).1 };
       not_read = λ s m image k standing q fetched e. nothing_read standing q fetched e;
       data_missing = λ s m image k standing words e short. no_data standing words e short;

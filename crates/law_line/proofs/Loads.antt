@@ -1,4 +1,5 @@
 -- A load: refused at its size word it ends the loader, which absorbs the data; granted, each data word is taken in silence, and at the last the load is done.
+use Rattle.std.specs.Prelude.{Some, Ok, Err}
 use Prim.Native.Nat.{ℕ, suc, ◌+◌, ◌-◌, ◌*◌, ◌/◌, ◌≤◌, min}
 use mathlib.Core.List.{List, [], ◌∷◌, ◌++◌}
 use mathlib.Core.Path.{◌≡◌, refl, sym, ap, subst, ◌∙◌}
@@ -6,16 +7,15 @@ use native.Mathlib.Omega.{arith}
 use lib.ListN.{length}
 use Rattle.words.specs.rules.Bytes.{word_at}
 use Rattle.words.proofs.Choice.{by_test}
-use Rattle.opcodes.specs.rules.Answers.{kind_of}
+use Rattle.opcodes.specs.rules.Answers.{kind_of, accepted}
 use Rattle.opcodes.specs.declared.Command.TheVariants as command
-use Rattle.opcodes.specs.declared.Refusal.{Refusal}
-use Rattle.opcodes.specs.declared.Refusal.TheVariants as refusal
+use Rattle.opcodes.specs.declared.Refusal.TheVariants as why
+use Rattle.opcodes.specs.rules.Refusals.{Verdict}
+use Rattle.opcodes.specs.rules.Refusals as refusal
 use Rattle.ledger.specs.rules.Totals.{would_pass, is_spent}
 use Rattle.reading.specs.rules.Reading.{past_words, argument, data_words, past_data}
-use Rattle.commands.specs.rules.Commands.{barred, load_judged}
+use Rattle.commands.specs.rules.Commands.{barred, load_judged, Judged}
 use Rattle.commands.specs.rules.Wrote.{none_wrote}
-use Rattle.commands.specs.declared.Judged.{Judged}
-use Rattle.commands.specs.declared.Judged.TheVariants.{Granted, Refused}
 use Rattle.commands.proofs.Judging.{unbarred, bars}
 use Rattle.flash.specs.rules.Step.{step_of}
 use Rattle.flash_session.specs.declared.Session.{Session}
@@ -119,7 +119,7 @@ module _ (bus : Bus) {s : Session} {m image : List ℕ} {k : Core} (standing : S
   -- it is judged as in flash mode
   judged_same : judged ≡ load_is s m image k
   judged_same =
-      λ i. barred (would_pass (sym standing.alike.dialect i) (sym standing.alike.totals i) (size_is i)) refusal.Overflow
+      λ i. barred (would_pass (sym standing.alike.dialect i) (sym standing.alike.totals i) (size_is i)) why.Overflow
       (load_judged (sym standing.alike.windows i) (address_is i) (size_is i))
 
   spent_same : is_spent sized.tally.totals ≡ is_spent s.totals
@@ -136,7 +136,7 @@ module _ (bus : Bus) {s : Session} {m image : List ℕ} {k : Core} (standing : S
       ∙ units_append bus two-words data-words
 
   -- refused at the size word
-  refused_sent : (q : Refusal) → reached ≡ (refused sized q leaving m) → Same (step_of s m image) reached → CommandSent bus s m image k command.Load 2
+  refused_sent : (q : Verdict) → reached ≡ (refused sized q leaving m) → Same (step_of s m image) reached → CommandSent bus s m image k command.Load 2
   refused_sent q is same =
       sent_by bus standing row sent.opcode
       (subst (λ (us : List ℕ). Comes bus sent.between us reached) (sym rest_is)
@@ -144,7 +144,7 @@ module _ (bus : Bus) {s : Session} {m image : List ℕ} {k : Core} (standing : S
       same sent.proper (subst (Answered k.dialect) (sym is) (refused_answered k.dialect none_wrote sized q m))
 
   -- granted
-  module _ (place : ℕ) (granted : out_of_numbers sized judged ≡ Granted place) where
+  module _ (place : ℕ) (granted : out_of_numbers sized judged ≡ Ok place) where
     begins : Quiet reached × (reached.answer.core.stage.phase ≡ awaited (place + size) size)
     begins =
         let is = reached_is ∙ ap (λ (j : Judged). load_begun sized address size j leaving m) granted in (
@@ -172,11 +172,11 @@ module _ (bus : Bus) {s : Session} {m image : List ℕ} {k : Core} (standing : S
 
   -- by the judgement
   by_judged : (j : Judged) → load_is s m image k ≡ j → CommandSent bus s m image k command.Load 2
-  by_judged (Refused q) is =
-      refused_sent q
+  by_judged (Err q) is =
+      refused_sent (Some q)
       (reached_is ∙ ap (λ (j : Judged). load_begun sized address size (out_of_numbers sized j) leaving m) (judged_same ∙ is))
       (both_same.refused q is)
-  by_judged (Granted place) is =
+  by_judged (Ok place) is =
       by_test (is_spent s.totals)
       (λ spent. refused_sent refusal.Number
       (reached_is

@@ -1,5 +1,6 @@
 -- A Request: sent, it says the checksum and stands unsettled, as if it had matched. So where flash goes on past it the loader is there; where flash goes back,
 -- Start-Over puts the totals back as the seek does.
+use Rattle.std.specs.Prelude.{Some, Ok, Err}
 use Prim.Native.Nat.{ℕ, ◌+◌, ◌≤◌, ◌<◌}
 use mathlib.Core.Bool.{true, false, not, true≢false}
 use mathlib.Core.List.{List, []}
@@ -9,25 +10,24 @@ use native.Mathlib.Omega.{arith}
 use lib.Dec.{leb, lit<}
 use lib.ListN.{length}
 use borrow.Author.Tests.{leb-true, eq-eqb, ne_eqb, le-leb, lt-leb}
+use Rattle.std.specs.declared.result.Result.TheVariants.{Ok}
 use Rattle.words.specs.rules.Bytes.{word_at}
 use Rattle.words.proofs.Choice.{chosen, passed, by_test}
 use Rattle.windows.specs.rules.Window.{sum_of}
-use Rattle.opcodes.specs.rules.Opcodes.{looked_up}
+use Rattle.opcodes.specs.rules.Opcodes.{looked_up, with_words}
 use Rattle.opcodes.specs.declared.Command.TheVariants as command
 use Rattle.opcodes.specs.declared.Event.TheVariants.{Nothing}
-use Rattle.opcodes.specs.declared.Found.TheVariants.{Known}
 use Rattle.opcodes.specs.declared.Mode.TheVariants.{Flash}
 use Rattle.opcodes.specs.declared.Refusal.{Refusal}
-use Rattle.opcodes.specs.declared.Refusal.TheVariants as refusal
+use Rattle.opcodes.specs.rules.Refusals.{Verdict}
+use Rattle.opcodes.specs.rules.Refusals as refusal
 use Rattle.ledger.specs.rules.Totals.{settled, put_back}
 use Rattle.ledger.specs.declared.Happening.{Happening}
 use Rattle.ledger.specs.declared.Happening.TheVariants as happening
 use Rattle.ledger.proofs.Laws.{stays}
 use Rattle.reading.specs.rules.Reading.{past_words, argument}
-use Rattle.commands.specs.rules.Commands.{sought_from}
+use Rattle.commands.specs.rules.Commands.{sought_from, Sought}
 use Rattle.commands.specs.rules.Wrote.{none_wrote}
-use Rattle.commands.specs.declared.Sought.{Sought}
-use Rattle.commands.specs.declared.Sought.TheVariants as sought
 use Rattle.flash_session.specs.rules.Sessions as flash
 use Rattle.flash_commands.specs.rules.Commands.{sought_as, requested}
 use Rattle.flash.specs.rules.Step.{step_of}
@@ -54,7 +54,7 @@ use Rattle.law_line.proofs.Rows.{request_row, over_row}
 use Rattle.law_line.proofs.Stretch.{word_small}
 
 module _ (bus : Bus) {s : Session} {m image : List ℕ} {k : Core} (standing : Standing s m image k)
-    (known : looked_up (word_at image s.offset) Flash s.dialect ≡ Known command.Request 2) (there : past_words s.offset 2 ≤ length image) where
+    (known : looked_up (word_at image s.offset) Flash s.dialect ≡ Ok (with_words command.Request 2)) (there : past_words s.offset 2 ≤ length image) where
   abbrev opcode : ℕ
   opcode = word_at image s.offset
 
@@ -98,7 +98,7 @@ module _ (bus : Bus) {s : Session} {m image : List ℕ} {k : Core} (standing : S
       (running bus standing)
 
   -- an answer that stops, and one that goes on
-  answer_stops : (q : Refusal) (x : Session) → call.answer ≡ flash.stopped q x → Stopped m call
+  answer_stops : (q : Verdict) (x : Session) → call.answer ≡ flash.stopped q x → Stopped m call
   answer_stops q x e =
       record {
         stops = ap goes_on e ∙ (stopped_stops q x m).stops;
@@ -139,12 +139,12 @@ module _ (bus : Bus) {s : Session} {m image : List ℕ} {k : Core} (standing : S
     sought_answer some e =
         by_mode.answer ∙ passed _ _ _ (ne_eqb _ _ differs) ∙ passed _ _ _ some ∙ ap (sought_as here) e
 
-    leads_astray : (q : Refusal) → sought_from s.offset seek ≡ sought.Refused q → Stopped m call
+    leads_astray : (q : Refusal) → sought_from s.offset seek ≡ Err q → Stopped m call
     leads_astray q e =
         by_test (leb s.limit s.retries) (λ spent. no_retry (leb-true _ _ spent))
-        (λ some. answer_stops q (flash.go_to here 0 s.offset) (sought_answer some e))
+        (λ some. answer_stops (Some q) (flash.go_to here 0 s.offset) (sought_answer some e))
 
-    goes_back : s.retries < s.limit → (offset : ℕ) → sought_from s.offset seek ≡ sought.To offset
+    goes_back : s.retries < s.limit → (offset : ℕ) → sought_from s.offset seek ≡ Ok offset
         → GoesOnAt m image call offset (s.retries + 1) over
     goes_back some offset e =
         let answer = sought_answer (lt-leb _ _ some) e in

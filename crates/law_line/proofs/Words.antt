@@ -10,9 +10,9 @@ use lib.ListN.{length, replicate, take}
 use borrow.Author.Tests.{eqb-true, eqb-false}
 use Rattle.words.proofs.Choice.{by_test}
 use Rattle.windows.specs.rules.Window.{sum_of}
-use Rattle.opcodes.specs.rules.Answers.{code_of, told}
+use Rattle.opcodes.specs.rules.Answers.{code_of, told, accepted}
 use Rattle.opcodes.specs.declared.Event.TheVariants.{Nothing}
-use Rattle.opcodes.specs.declared.Refusal.TheVariants as refusal
+use Rattle.opcodes.specs.rules.Refusals as refusal
 use Rattle.machine_answers.specs.rules.Answers.{WordOutcome, quiet, ◌leaving◌}
 use Rattle.machine.specs.rules.Machine.{word_step}
 use Rattle.machine_answers.specs.rules.Replies.{sent_bytes}

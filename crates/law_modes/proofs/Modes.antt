@@ -1,5 +1,8 @@
 -- Both modes do the same with the same words. A flash session like a sent one has its windows, dialect, end, switch, checksum and settled totals; a call comes
 -- to the command by the table, the words sent come to it by the table too, and there each command is judged and done by one definition.
+use Rattle.opcodes.specs.declared.Refusal.TheVariants as why
+use Rattle.opcodes.specs.declared.Refusal.{Refusal}
+use Rattle.std.specs.Prelude.{Ok, Err}
 use Prim.Native.Nat.{ℕ, ◌+◌, ◌*◌, ◌≤◌, ◌<◌}
 use mathlib.Core.Bool.{Bool, true, false, false≢true}
 use mathlib.Core.List.{List, [], ◌∷◌}
@@ -8,34 +11,30 @@ use native.Mathlib.Omega.{arith}
 use lib.Dec.{eqb}
 use lib.ListN.{length, get_or}
 use borrow.Author.Tests.{eq-eqb, eqb-true}
+use Rattle.std.specs.declared.result.Result.TheVariants.{Ok}
 use Rattle.words.specs.rules.Bytes.{word_at}
 use Rattle.words.specs.rules.Choice.{pick}
 use Rattle.words.proofs.Choice.{chosen, of_choice}
 use Rattle.opcodes.specs.rules.Answers.{code_of}
-use Rattle.opcodes.specs.rules.Opcodes.{rows, row_serves, found_in, looked_up}
+use Rattle.opcodes.specs.rules.Opcodes.{rows, row_serves, found_in, looked_up, with_words}
 use Rattle.opcodes.specs.declared.Command.{Command}
 use Rattle.opcodes.specs.declared.Command.TheVariants as command
 use Rattle.opcodes.specs.declared.Dialect.{Dialect}
 use Rattle.opcodes.specs.declared.Dialect.TheVariants.{Am17xx, Dm648}
 use Rattle.opcodes.specs.declared.Event.TheVariants.{Nothing}
-use Rattle.opcodes.specs.declared.Found.TheVariants.{Known}
 use Rattle.opcodes.specs.declared.Mode.TheVariants.{Flash, Sent}
-use Rattle.opcodes.specs.declared.Refusal.{Refusal}
-use Rattle.opcodes.specs.declared.Refusal.TheVariants.{None, Number}
+use Rattle.opcodes.specs.rules.Refusals.{Verdict}
+use Rattle.opcodes.specs.rules.Refusals.{None}
 use Rattle.opcodes.proofs.Counts.{row_is, row-is}
 use Rattle.ledger.specs.rules.Totals.{counted, is_spent, numbered, marked, settled, in_flash}
 use Rattle.ledger.specs.declared.Happening.{Happening}
 use Rattle.ledger.specs.declared.Happening.TheVariants as happened
 use Rattle.ledger.specs.declared.Totals.{Totals}
 use Rattle.ledger.proofs.Laws.{stays, settled_asks_nothing, settled_once, marked_settled, settled_asking, counted_keeps}
-use Rattle.commands.specs.rules.Commands.{load_judged, sought_from}
+use Rattle.commands.specs.rules.Commands.{load_judged, sought_from, Judged, Sought}
 use Rattle.stores.specs.rules.Stores.{loaded, load_fed}
 use Rattle.commands.specs.rules.Wrote.{none_wrote}
 use Rattle.commands.specs.declared.Done.{Done}
-use Rattle.commands.specs.declared.Judged.{Judged}
-use Rattle.commands.specs.declared.Judged.TheVariants.{Granted, Refused}
-use Rattle.commands.specs.declared.Sought.{Sought}
-use Rattle.commands.specs.declared.Sought.TheVariants as sought
 use Rattle.commands.specs.declared.Wrote.{Wrote}
 use Rattle.commands.proofs.Judging.{unbarred, bars}
 use Rattle.flash_session.specs.rules.Sessions as flash
@@ -163,7 +162,7 @@ module _ (k : Core) (totals : Totals) (same : totals ≡ settled k.tally.totals)
           }
 
   -- a refused close, whichever way its end is told
-  refused_same : (q : Refusal) (memory : List ℕ) (t : Bool) → Same (flash.◌leaving◌ (flash-commands.entered (flash.stopped q s)) memory)
+  refused_same : (q : Verdict) (memory : List ℕ) (t : Bool) → Same (flash.◌leaving◌ (flash-commands.entered (flash.stopped q s)) memory)
       (machine.◌leaving◌
       (pick t (record { refusal = q; reply = farewell k.dialect; event = Nothing; core = machine.stop (machine.stop k); wrote = none_wrote })
       (machine.refused k q)) memory)
@@ -324,7 +323,7 @@ module _ (k : Core) (offset size limit retries fetched : ℕ) (m image : List �
 
   -- refused and granted
   load_refused_same : (a b : ℕ) → a ≡ argument image offset 0 → b ≡ argument image offset 1 → (q : Refusal)
-      → flash-commands.overflowing session (argument image offset 1) (load_judged k.windows (argument image offset 0) (argument image offset 1)) ≡ Refused q
+      → flash-commands.overflowing session (argument image offset 1) (load_judged k.windows (argument image offset 0) (argument image offset 1)) ≡ Err q
       → Same (step.performed command.Load (past_words offset 2) session m image) (done_with opcode command.Load (begun command.Load k) m (a ∷ b ∷ []))
   unfolding done_at_last
   load_refused_same a b p r q judged =
@@ -344,14 +343,14 @@ module _ (k : Core) (offset size limit retries fetched : ℕ) (m image : List �
 
   -- no number for it
   load_spent_same : (a b : ℕ) → a ≡ argument image offset 0 → b ≡ argument image offset 1 → (place : ℕ)
-      → flash-commands.overflowing session b (load_judged k.windows a b) ≡ Granted place → is_spent (settled k.tally.totals) ≡ true
+      → flash-commands.overflowing session b (load_judged k.windows a b) ≡ Ok place → is_spent (settled k.tally.totals) ≡ true
       → past_words offset 2 + 4 * data_words b ≤ length image
       → Same (step.performed command.Load (past_words offset 2) session m image) (done_with opcode command.Load (begun command.Load k) m (a ∷ b ∷ []))
   unfolding done_at_last
   load_spent_same a b p r place judged spent there =
       let reached : Core = asking (begun command.Load k) command.Load 1 (keeping none_kept a) in
       let in-flash = sym (load_read p r (sym judged)) ∙ load_spent session m image (past_words offset 2) a b place (are-present image _ _ there) spent in
-      let sent : out_of_numbers reached (overflowing reached b (load_judged k.windows a b)) ≡ Refused Number =
+      let sent : out_of_numbers reached (overflowing reached b (load_judged k.windows a b)) ≡ Err why.Number =
       ap (out_of_numbers reached) judged ∙ bars _ _ place spent in
       subst₂ Same (sym in-flash) (sym (ap (λ (j : Judged). machine.◌leaving◌ (load_begun reached a b j) m) sent))
       (record {
@@ -362,7 +361,7 @@ module _ (k : Core) (offset size limit retries fetched : ℕ) (m image : List �
       })
 
   load_granted_same : (a b : ℕ) → a ≡ argument image offset 0 → b ≡ argument image offset 1 → (place : ℕ)
-      → flash-commands.overflowing session b (load_judged k.windows a b) ≡ Granted place → is_spent (settled k.tally.totals) ≡ false
+      → flash-commands.overflowing session b (load_judged k.windows a b) ≡ Ok place → is_spent (settled k.tally.totals) ≡ false
       → ((i : ℕ) → get_or image i 0 < 256) → past_words offset 2 + 4 * data_words b ≤ length image
       → Same (step.performed command.Load (past_words offset 2) session m image)
       (after_words (done_with opcode command.Load (begun command.Load k) m (a ∷ b ∷ [])) (words_at image (past_words offset 2) (data_words b)))
@@ -392,7 +391,7 @@ module _ (k : Core) (offset size limit retries fetched : ℕ) (m image : List �
 
 -- a call comes to the command of its row, its words fetched
 called : (s : Session) (m image : List ℕ) (k : Core) → Before s m image k → (c : Command) (words : ℕ)
-    → looked_up (word_at image s.offset) Flash s.dialect ≡ Known c words → past_words s.offset words ≤ length image
+    → looked_up (word_at image s.offset) Flash s.dialect ≡ Ok (with_words c words) → past_words s.offset words ≤ length image
     → step_of s m image ≡ step.performed c (past_words s.offset words) (flash.fetching (1 + words) s) m image
 called s m image k b c words known there = call_whole s m image b.running b.lent b.sound c words known there
 
@@ -403,8 +402,8 @@ record Quiet (s : Session) (a : Called) : Type 0 where
   checksum : a.session.checksum ≡ 0
 
 sought_quiet : (s : Session) (led : Sought) → Quiet s (flash-commands.sought_as s led)
-sought_quiet s (sought.To offset) = record { event = refl; on = refl; checksum = refl }
-sought_quiet s (sought.Refused q) = record { event = refl; on = refl; checksum = refl }
+sought_quiet s (Ok offset) = record { event = refl; on = refl; checksum = refl }
+sought_quiet s (Err q) = record { event = refl; on = refl; checksum = refl }
 
 requested_quiet : (s : Session) (next expected seek : ℕ) → Quiet s (flash-commands.requested s next expected seek)
 unfolding flash-commands.requested
@@ -422,7 +421,7 @@ module _ (m image : List ℕ) (k : Core) (offset size limit retries fetched : �
   word = word_at image offset
 
   -- what the words sent come to
-  sent_done : (c : Command) (words : ℕ) → looked_up word Sent k.dialect ≡ Known c words
+  sent_done : (c : Command) (words : ℕ) → looked_up word Sent k.dialect ≡ Ok (with_words c words)
       → sent_with here m image k (words_at image (offset + 4) words) ≡ done_with word c (begun c k) m (words_at image (offset + 4) words)
   sent_done c words known = by_the_table.done k m word c words (words_at image (offset + 4) words) b.awaits known (words_length image words (offset + 4))
 

@@ -1,9 +1,11 @@
 -- Where Jump stands both modes refuse it with 15: the look-up answers retired before any row is asked, and so before an argument is looked for.
 use mathlib.Core.Path.{ap, ◌∙◌}
-use Rattle.opcodes.specs.declared.Found.{Found}
+use Rattle.std.specs.declared.result.Result.{Result}
 use Rattle.opcodes.specs.declared.Mode.TheVariants.{Flash, Sent}
 use Rattle.opcodes.specs.rules.Opcodes.{looked_up}
 use Rattle.opcodes.proofs.Retired.{exactly_jump}
+use Rattle.opcodes.specs.declared.Known.{Known}
+use Rattle.opcodes.specs.declared.Refusal.{Refusal}
 use Rattle.reading.specs.rules.Reading.{read_as}
 use Rattle.reading.proofs.Reading.{read_row}
 use Rattle.flash.specs.rules.Step.{followed}
@@ -25,5 +27,5 @@ jump_refused =
           ∙ ap (read_as image s.offset) (exactly_jump.retired Flash s.dialect));
       sent = λ k m awaits.
           ap (λ (p : Phase). in_phase p k m 0x58535905) awaits
-          ∙ ap (λ (f : Found). at_opcode k m 0x58535905 f) (exactly_jump.retired Sent k.dialect);
+          ∙ ap (λ (f : Result Known Refusal). at_opcode k m 0x58535905 f) (exactly_jump.retired Sent k.dialect);
     }

@@ -1,4 +1,6 @@
 -- What both modes share: what leaving the numbers out does to totals and to what was written, and which refusals are neither 0 nor 25.
+use Rattle.opcodes.specs.declared.Refusal.{Refusal}
+use Rattle.std.specs.Prelude.{Some, None, Ok, Err}
 use Prim.Native.Nat.{ℕ}
 use mathlib.Core.Bool.{Bool, true, false}
 use mathlib.Core.Logic.{◌≢◌}
@@ -11,18 +13,14 @@ use Rattle.opcodes.specs.declared.Command.{Command}
 use Rattle.opcodes.specs.declared.Command.TheVariants as command
 use Rattle.opcodes.specs.declared.Dialect.{Dialect}
 use Rattle.opcodes.specs.declared.Dialect.TheVariants.{Am17xx, Dm648}
-use Rattle.opcodes.specs.declared.Refusal.{Refusal}
-use Rattle.opcodes.specs.declared.Refusal.TheVariants as refusal
+use Rattle.opcodes.specs.rules.Refusals.{Verdict}
+use Rattle.opcodes.specs.rules.Refusals as refusal
 use Rattle.ledger.specs.claims.Agreement.{KeepsNone}
 use Rattle.ledger.specs.rules.Totals.{would_pass, differs, counted, following, numbered, marked, settled, asking, turned}
 use Rattle.ledger.specs.declared.Standing.{Standing}
 use Rattle.ledger.specs.declared.Totals.{Totals}
-use Rattle.commands.specs.rules.Commands.{shape_of}
+use Rattle.commands.specs.rules.Commands.{shape_of, Judged, Shape}
 use Rattle.commands.specs.rules.Wrote.{bytes_wrote, shape_wrote, setting_wrote}
-use Rattle.commands.specs.declared.Judged.{Judged}
-use Rattle.commands.specs.declared.Judged.TheVariants.{Granted, Refused}
-use Rattle.commands.specs.declared.Shape.{Shape}
-use Rattle.commands.specs.declared.Shape.TheVariants.{Bits, Wrong}
 use Rattle.commands.proofs.Judging.{EachRefusal}
 use Rattle.law_numbering.specs.claims.LeftOut.{unnumbered, by_any}
 
@@ -51,26 +49,30 @@ numbered_alike t = refl
 
 -- what was written, by its judgement
 pub bytes_alike : (judged : Judged) (size number : ℕ) → by_any (bytes_wrote judged size number) ≡ bytes_wrote judged size 0
-bytes_alike (Granted place) size number = refl
-bytes_alike (Refused q) size number = refl
+bytes_alike (Ok place) size number = refl
+bytes_alike (Err q) size number = refl
 
 shape_alike : (place : ℕ) (shape : Shape) (number : ℕ) → by_any (shape_wrote place shape number) ≡ shape_wrote place shape 0
-shape_alike place Wrong number = refl
-shape_alike place (Bits unit start width field) number = refl
+shape_alike place None number = refl
+shape_alike place (Some bits) number = refl
 
 pub setting_alike : (judged : Judged) (word number : ℕ) → by_any (setting_wrote judged word number) ≡ setting_wrote judged word 0
-setting_alike (Granted place) word number = shape_alike place (shape_of word) number
-setting_alike (Refused q) word number = refl
+setting_alike (Ok place) word number = shape_alike place (shape_of word) number
+setting_alike (Err q) word number = refl
 
 -- a refusal, and not 25
-pub record Other (q : Refusal) : Type 0 where
+pub record Other (q : Verdict) : Type 0 where
   pub refuses : code_of q ≢ 0
   pub not_25 : code_of q ≢ 25
 
-pub other : (q : Refusal) → eqb (code_of q) 0 ≡ false → eqb (code_of q) 25 ≡ false → Other q
+pub other : (q : Verdict) → eqb (code_of q) 0 ≡ false → eqb (code_of q) 25 ≡ false → Other q
 other q e f = record { refuses = eqb-false _ _ e; not_25 = eqb-false _ _ f }
 
-pub each_other : EachRefusal Other
+-- so of a refusal alone
+abbrev pub OtherRefusal : Refusal → Type 0
+OtherRefusal q = Other (Some q)
+
+pub each_other : EachRefusal OtherRefusal
 each_other =
     record {
       type-word = other refusal.TypeWord refl refl;

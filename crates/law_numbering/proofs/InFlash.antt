@@ -1,5 +1,6 @@
 -- A call beside the same call without the numbers: each part of the rules gives the same, or 25 where the other accepts a command that takes a number. So a
 -- session that has none, which is its own session without them, goes on to have none.
+use Rattle.std.specs.Prelude.{Some, Ok, Err}
 use Prim.Native.Nat.{ℕ, ◌+◌}
 use mathlib.Core.Bool.{Bool, true, false, not, false≢true, true≢false}
 use mathlib.Core.List.{List, [], ◌∷◌}
@@ -7,6 +8,8 @@ use mathlib.Core.Logic.{◌≢◌}
 use mathlib.Core.Path.{◌≡◌, refl, sym, ap, subst, ◌∙◌}
 use lib.Dec.{eqb, leb}
 use borrow.Author.Tests.{eq-eqb, ne_eqb}
+use Rattle.std.specs.declared.result.Result.{Result}
+use Rattle.std.specs.declared.result.Result.TheVariants.{Ok, Err}
 use Rattle.words.specs.rules.Bytes.{word_at}
 use Rattle.words.specs.rules.Choice.{pick}
 use Rattle.words.proofs.Choice.{of_choice}
@@ -19,10 +22,12 @@ use Rattle.opcodes.specs.declared.Command.TheVariants as command
 use Rattle.opcodes.specs.declared.Dialect.{Dialect}
 use Rattle.opcodes.specs.declared.Event.{Event}
 use Rattle.opcodes.specs.declared.Event.TheVariants as event
-use Rattle.opcodes.specs.declared.Found.{Found}
-use Rattle.opcodes.specs.declared.Found.TheVariants.{Known, Retired, Unknown}
 use Rattle.opcodes.specs.declared.Mode.TheVariants.{Flash}
-use Rattle.opcodes.specs.declared.Refusal.TheVariants as refusal
+use Rattle.opcodes.specs.declared.Refusal.TheVariants as why
+use Rattle.opcodes.specs.rules.Refusals as refusal
+use Rattle.opcodes.specs.declared.Known.{Known}
+use Rattle.opcodes.specs.declared.Refusal.{Refusal}
+use Rattle.opcodes.proofs.Looked.{Looked, of_row, of_none, of_retired, looked}
 use Rattle.ledger.specs.claims.Agreement.{KeepsNone, HasNumbers}
 use Rattle.ledger.specs.rules.Totals.{from_one, standing, counted, differs, is_spent, in_flash}
 use Rattle.ledger.specs.declared.Happening.{Happening}
@@ -30,18 +35,13 @@ use Rattle.ledger.specs.declared.Happening.TheVariants as happened
 use Rattle.ledger.specs.declared.Standing.{Standing}
 use Rattle.ledger.specs.declared.Totals.{Totals}
 use Rattle.ledger.proofs.Agreement.{never_numbers, numbers_stay}
-use Rattle.reading.specs.rules.Reading.{present, words_from, past_words, argument, data_words, read_as, read_at}
-use Rattle.reading.specs.declared.Read.{Read}
-use Rattle.reading.specs.declared.Read.TheVariants as read
+use Rattle.reading.specs.rules.Reading.{present, words_from, past_words, argument, data_words, read_as, read_at, unread}
+use Rattle.reading.specs.declared.Unread.{Unread}
 use Rattle.commands.specs.rules.Commands.{barred, done_if, load_judged, fill_judged, fill_done, fill_memory, setting_judged, setting_done, setting_memory}
 use Rattle.commands.specs.rules.Commands.{entry_judged}
-use Rattle.commands.specs.rules.Commands.{close_done, sought_from}
+use Rattle.commands.specs.rules.Commands.{close_done, sought_from, Judged, Sought}
 use Rattle.commands.specs.rules.Wrote.{none_wrote, bytes_wrote, setting_wrote}
 use Rattle.commands.specs.declared.Done.{Done}
-use Rattle.commands.specs.declared.Judged.{Judged}
-use Rattle.commands.specs.declared.Judged.TheVariants.{Granted, Refused}
-use Rattle.commands.specs.declared.Sought.{Sought}
-use Rattle.commands.specs.declared.Sought.TheVariants as sought
 use Rattle.commands.specs.declared.Wrote.{Wrote}
 use Rattle.commands.proofs.Judging.{Passes, barred_passes, load_passes, fill_passes, setting_passes, entry_passes}
 use Rattle.flash_session.specs.rules.Opening.{opened_by, numbering_from}
@@ -56,7 +56,7 @@ use Rattle.flash_session.specs.declared.Opened.{Opened}
 use Rattle.flash_session.specs.declared.Session.{Session}
 use Rattle.law_numbering.specs.claims.InFlash.{plain, plainly, plain_outcome, takes_found, OutOfNumbers, InFlash}
 use Rattle.law_numbering.specs.claims.LeftOut.{unnumbered, by_any, takes}
-use Rattle.law_numbering.proofs.Common.{none_left, passes_alike, differs_alike, counted_alike, numbered_alike, bytes_alike, setting_alike, Other, other}
+use Rattle.law_numbering.proofs.Common.{none_left, passes_alike, differs_alike, counted_alike, numbered_alike, bytes_alike, setting_alike, Other, OtherRefusal, other}
 use Rattle.law_numbering.proofs.Common.{each_other, none_not}
 
 -- an answer without the numbers, and what is given beside it
@@ -123,9 +123,9 @@ module _ (s : Session) where
   unfolding after
   after_not h wrote done n p = of_choice (λ (a : Called). code_of a.refusal ≢ 25) _ (λ e. none_not) (λ e. p)
 
-done_not : (judged : Judged) (checksum fed : ℕ) (told : Event) → Passes Other judged → code_of (done_if judged checksum told fed).refusal ≢ 25
-done_not (Granted place) checksum fed told p = none_not
-done_not (Refused q) checksum fed told p = p.not_25
+done_not : (judged : Judged) (checksum fed : ℕ) (told : Event) → Passes OtherRefusal judged → code_of (done_if judged checksum told fed).refusal ≢ 25
+done_not (Ok place) checksum fed told p = none_not
+done_not (Err q) checksum fed told p = p.not_25
 
 -- a fill and a setting, by what they do where they are granted
 module _ (s : Session) (h : Happening) (wrote : Judged → ℕ → Wrote) (alike : (judged : Judged) (number : ℕ) → by_any (wrote judged number) ≡ wrote judged 0)
@@ -139,17 +139,17 @@ module _ (s : Session) (h : Happening) (wrote : Judged → ℕ → Wrote) (alike
       ((after_plain s h (wrote judged s.totals.next) (done_if judged s.checksum told fed) next).told
       ∙ ap (λ (w : Wrote). after (plain s) h w (done_if judged s.checksum told fed) next) (alike judged s.totals.next))
 
-  written_granted : (place : ℕ) (t : Bool) → Beside t true (written s (pick t (Refused refusal.Number) (Granted place))) (written (plain s) (Granted place))
+  written_granted : (place : ℕ) (t : Bool) → Beside t true (written s (pick t (Err why.Number) (Ok place))) (written (plain s) (Ok place))
   unfolding after pick
   written_granted place true = lacks refl refl refl refl
-  written_granted place false = same none_not (written_plain (Granted place)) (λ s t. absurd (false≢true s))
+  written_granted place false = same none_not (written_plain (Ok place)) (λ s t. absurd (false≢true s))
 
-  written_beside : (judged : Judged) → Passes Other judged
+  written_beside : (judged : Judged) → Passes OtherRefusal judged
       → Beside (is_spent s.totals) true (written s (out_of_numbers s judged)) (written (plain s) (out_of_numbers (plain s) judged))
   unfolding pick
-  written_beside (Granted place) p = written_granted place (is_spent s.totals)
-  written_beside (Refused q) p = refused (after_refused s h _ (record { refusal = q; event = event.Nothing; checksum = s.checksum }) next p)
-      (written_plain (Refused q))
+  written_beside (Ok place) p = written_granted place (is_spent s.totals)
+  written_beside (Err q) p = refused (after_refused s h _ (record { refusal = Some q; event = event.Nothing; checksum = s.checksum }) next p)
+      (written_plain (Err q))
 
 module _ (m image : List ℕ) where
   module _ (s : Session) where
@@ -159,19 +159,19 @@ module _ (m image : List ℕ) where
         let whole : CallOutcome = load_done (plain s) m image next address size place in
         ap (λ (t : Totals). retold whole.answer t leaving whole.memory) (counted_alike s.dialect s.totals size)
 
-    load_beside : (next address size : ℕ) (judged : Judged) → Passes Other judged
+    load_beside : (next address size : ℕ) (judged : Judged) → Passes OtherRefusal judged
         → Beside (is_spent s.totals) true (load_judged_as s m image next address size judged) (load_judged_as (plain s) m image next address size judged)
     unfolding load_at pick
-    load_beside next address size (Granted place) p =
+    load_beside next address size (Ok place) p =
         choice (not (present image next (data_words size))) (refused (other refusal.Missing refl refl) refl)
         (numbering (is_spent s.totals) (stopped refusal.Number s leaving m) (load_done (plain s) m image next address size place)
         (load_done s m image next address size place) refl
         (load_plain next address size place) refl)
-    load_beside next address size (Refused q) p = refused p refl
+    load_beside next address size (Err q) p = refused p refl
 
     -- 18 is given alike
-    section_passes : (size : ℕ) (judged : Judged) → Passes Other judged → Passes Other (overflowing s size judged)
-    section_passes size judged p = barred_passes Other _ refusal.Overflow judged (other refusal.Overflow refl refl) p
+    section_passes : (size : ℕ) (judged : Judged) → Passes OtherRefusal judged → Passes OtherRefusal (overflowing s size judged)
+    section_passes size judged p = barred_passes OtherRefusal _ why.Overflow judged (other refusal.Overflow refl refl) p
 
     load-judged : (next address size : ℕ) → Beside (is_spent s.totals) true
         (load_of s m image next address size) (load_of (plain s) m image next address size)
@@ -179,9 +179,9 @@ module _ (m image : List ℕ) where
         let judged : Judged = load_judged s.windows address size in
         subst
         (λ (t : Bool). Beside (is_spent s.totals) true (load_judged_as s m image next address size (overflowing s size judged))
-        (load_judged_as (plain s) m image next address size (barred t refusal.Overflow judged)))
+        (load_judged_as (plain s) m image next address size (barred t why.Overflow judged)))
         (passes_alike s.dialect s.totals size)
-        (load_beside next address size (overflowing s size judged) (section_passes size judged (load_passes Other each_other s.windows address size)))
+        (load_beside next address size (overflowing s size judged) (section_passes size judged (load_passes OtherRefusal each_other s.windows address size)))
 
     fill-judged : (next address size kind pattern : ℕ) → Beside (is_spent s.totals) true
         (fill_of s m next address size kind pattern) (fill_of (plain s) m next address size kind pattern)
@@ -190,12 +190,12 @@ module _ (m image : List ℕ) where
         let judged : Judged = fill_judged s.windows address size kind in
         subst
         (λ (t : Bool). Beside (is_spent s.totals) true (fill_judged_as s m next address size kind pattern (out_of_numbers s (overflowing s size judged)))
-        (fill_judged_as (plain s) m next address size kind pattern (out_of_numbers (plain s) (barred t refusal.Overflow judged))))
+        (fill_judged_as (plain s) m next address size kind pattern (out_of_numbers (plain s) (barred t why.Overflow judged))))
         (passes_alike s.dialect s.totals size)
         (written_beside s (happened.Section size) (λ j n. bytes_wrote j size n) (λ j n. bytes_alike j size n) (λ j. fill_memory j m size kind pattern)
         event.Nothing
         (pick s.on (fed_words s.checksum (address ∷ size ∷ kind ∷ pattern ∷ [])) s.checksum) next (overflowing s size judged)
-        (section_passes size judged (fill_passes Other each_other s.windows address size kind)))
+        (section_passes size judged (fill_passes OtherRefusal each_other s.windows address size kind)))
 
     setting-judged : (next word address value delay : ℕ) → Beside (is_spent s.totals) true
         (setting_of s m next word address value delay) (setting_of (plain s) m next word address value delay)
@@ -203,12 +203,12 @@ module _ (m image : List ℕ) where
     setting-judged next word address value delay =
         written_beside s happened.Setting (λ j n. setting_wrote j word n) (λ j n. setting_alike j word n) (λ j. setting_memory j m word value)
         (event.Wait delay) s.checksum next
-        (setting_judged s.windows word address value) (setting_passes Other each_other s.windows word address value)
+        (setting_judged s.windows word address value) (setting_passes OtherRefusal each_other s.windows word address value)
 
     -- a Request, and a close
     sought_same : (led : Sought) → Same (sought_as s led) (sought_as (plain s) led)
-    sought_same (sought.To offset) = record { told = refl }
-    sought_same (sought.Refused q) = record { told = refl }
+    sought_same (Ok offset) = record { told = refl }
+    sought_same (Err q) = record { told = refl }
 
     request_same : (next expected seek : ℕ) → Same (requested s next expected seek) (requested (plain s) next expected seek)
     unfolding requested
@@ -232,14 +232,14 @@ module _ (m image : List ℕ) where
     unfolding close_done
     close_beside next address sections bytes =
         let totals : Standing = standing sections bytes in
-        let at : Bool → Judged = λ t. barred t refusal.Totals (entry_judged s.windows address) in
+        let at : Bool → Judged = λ t. barred t why.Totals (entry_judged s.windows address) in
         let done_by : Bool → Done = λ t. done_if (at t) s.checksum (event.Enter address) s.checksum in
         let differ : Bool = differs s.dialect s.totals totals in
         free
         (after_not s happened.Other none_wrote (done_by differ) next
         (done_not (at differ) s.checksum s.checksum (event.Enter address)
-        (barred_passes Other differ refusal.Totals (entry_judged s.windows address) (other refusal.Totals refl refl)
-        (entry_passes Other each_other s.windows address))))
+        (barred_passes OtherRefusal differ why.Totals (entry_judged s.windows address) (other refusal.Totals refl refl)
+        (entry_passes OtherRefusal each_other s.windows address))))
         (ap (λ (a : Called). entered a leaving m)
         ((after_plain s happened.Other none_wrote (done_by differ) next).told
         ∙ ap (λ (t : Bool). after (plain s) happened.Other none_wrote (done_by t) next) (differs_alike s.dialect s.totals totals)))
@@ -261,22 +261,22 @@ module _ (m image : List ℕ) where
     performed_beside command.SequentialRead next = free none_not refl
 
   -- what is read where words are missing, and the command
-  read_choice : {takes_one : Bool} (s : Session) (t : Bool) (n : ℕ) (r : Read)
+  read_choice : {takes_one : Bool} (s : Session) (t : Bool) (n : ℕ) (r : Result Known Unread)
       → Beside (is_spent s.totals) takes_one (followed s m image r) (followed (plain s) m image r)
-      → Beside (is_spent s.totals) takes_one (followed s m image (pick t (read.Refused refusal.Missing n) r))
-      (followed (plain s) m image (pick t (read.Refused refusal.Missing n) r))
+      → Beside (is_spent s.totals) takes_one (followed s m image (pick t (Err (unread why.Missing n)) r))
+      (followed (plain s) m image (pick t (Err (unread why.Missing n)) r))
   unfolding pick
   read_choice s true n r beside = refused (other refusal.Missing refl refl) refl
   read_choice s false n r beside = beside
 
-  row_beside : (s : Session) (found : Found)
+  row_beside : (s : Session) {found : Result Known Refusal} → Looked found
       → Beside (is_spent s.totals) (takes_found found) (followed s m image (read_as image s.offset found))
       (followed (plain s) m image (read_as image s.offset found))
-  row_beside s Unknown = refused (other refusal.Opcode refl refl) refl
-  row_beside s Retired = refused (other refusal.Retired refl refl) refl
-  row_beside s (Known c words) =
-      read_choice s (not (present image s.offset (1 + words))) (words_from image s.offset) (read.Whole c words)
-      (performed_beside (fetching (1 + words) s) c (past_words s.offset words))
+  row_beside s of_none = refused (other refusal.Opcode refl refl) refl
+  row_beside s of_retired = refused (other refusal.Retired refl refl) refl
+  row_beside s (of_row f) =
+      read_choice s (not (present image s.offset (1 + f.words))) (words_from image s.offset) (Ok f)
+      (performed_beside (fetching (1 + f.words) s) f.command (past_words s.offset f.words))
 
   step_beside : (s : Session)
       → Beside (is_spent s.totals) (takes_found (looked_up (word_at image s.offset) Flash s.dialect)) (step_of s m image) (step_of (plain s) m image)
@@ -285,7 +285,7 @@ module _ (m image : List ℕ) where
       choice _ (refused (other refusal.Ended refl refl) refl)
       (choice _ (refused (other refusal.Memory refl refl) refl)
       (choice _ (refused (other refusal.Image refl refl) refl)
-      (read_choice s _ 0 _ (row_beside s (looked_up (word_at image s.offset) Flash s.dialect)))))
+      (read_choice s _ 0 _ (row_beside s (looked (word_at image s.offset) Flash s.dialect)))))
 
 -- the laws
 module _ (s : Session) (m image : List ℕ) where

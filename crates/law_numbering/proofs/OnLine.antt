@@ -1,5 +1,6 @@
 -- A word beside the same word without the numbers: each part of the rules gives the same, or 25 where the other accepts a command that takes a number; then a
 -- unit, and units by induction. So a session that has none, which is its own session without them, goes on to have none.
+use Rattle.std.specs.Prelude.{Some, Ok, Err}
 use Prim.Native.Nat.{ℕ, ◌+◌, ◌-◌}
 use mathlib.Core.Bool.{Bool, true, false, not, ◌&&◌, ◌||◌, and-false, false≢true, true≢false}
 use mathlib.Core.List.{List, [], ◌∷◌}
@@ -9,34 +10,35 @@ use native.Mathlib.Omega.{arith}
 use lib.Dec.{eqb, ltb}
 use lib.ListN.{length}
 use borrow.Author.Tests.{ne_eqb, eqb-true}
+use Rattle.std.specs.declared.result.Result.{Result}
 use Rattle.words.specs.rules.Choice.{pick}
 use Rattle.words.proofs.Choice.{of_choice}
 use Rattle.checksum.specs.rules.Checksum.{fed_words}
 use Rattle.windows.specs.rules.Window.{sum_of}
 use Rattle.windows.specs.declared.Window.{Window}
-use Rattle.opcodes.specs.rules.Answers.{code_of}
+use Rattle.opcodes.specs.rules.Answers.{code_of, accepted}
 use Rattle.opcodes.specs.rules.Opcodes.{looked_up}
 use Rattle.opcodes.specs.declared.Command.{Command}
 use Rattle.opcodes.specs.declared.Command.TheVariants as command
 use Rattle.opcodes.specs.declared.Dialect.{Dialect}
 use Rattle.opcodes.specs.declared.Event.{Event}
 use Rattle.opcodes.specs.declared.Event.TheVariants as event
-use Rattle.opcodes.specs.declared.Found.{Found}
-use Rattle.opcodes.specs.declared.Found.TheVariants.{Known, Retired, Unknown}
 use Rattle.opcodes.specs.declared.Mode.TheVariants.{Sent}
-use Rattle.opcodes.specs.declared.Refusal.TheVariants as refusal
+use Rattle.opcodes.specs.declared.Refusal.TheVariants as why
+use Rattle.opcodes.specs.rules.Refusals as refusal
 use Rattle.opcodes.proofs.Counts.{row_is, row-is}
+use Rattle.opcodes.specs.declared.Known.{Known}
+use Rattle.opcodes.specs.declared.Refusal.{Refusal}
+use Rattle.opcodes.proofs.Looked.{Looked, of_row, of_none, of_retired, looked}
 use Rattle.ledger.specs.claims.Agreement.{KeepsNone}
 use Rattle.ledger.specs.rules.Totals.{standing, would_pass, differs, is_spent, numbered, turned}
 use Rattle.ledger.specs.declared.Totals.{Totals}
 use Rattle.ledger.proofs.Agreement.{never_numbers}
 use Rattle.commands.specs.rules.Commands.{barred, done_if, load_judged, fill_judged, fill_done, fill_memory, setting_judged, setting_done, setting_memory}
 use Rattle.commands.specs.rules.Commands.{entry_judged}
-use Rattle.commands.specs.rules.Commands.{close_done}
+use Rattle.commands.specs.rules.Commands.{close_done, Judged}
 use Rattle.commands.specs.rules.Wrote.{none_wrote, bytes_wrote, setting_wrote}
 use Rattle.commands.specs.declared.Done.{Done}
-use Rattle.commands.specs.declared.Judged.{Judged}
-use Rattle.commands.specs.declared.Judged.TheVariants.{Granted, Refused}
 use Rattle.commands.specs.declared.Wrote.{Wrote}
 use Rattle.commands.proofs.Judging.{Passes, barred_passes, load_passes, fill_passes, setting_passes, entry_passes}
 use Rattle.sent.specs.rules.Bus.{units_in_word, start_unit, pushed}
@@ -63,7 +65,7 @@ use Rattle.law_numbering.specs.claims.LeftOut.{unnumbered, by_any, takes}
 use Rattle.law_numbering.specs.claims.OnLine.{plain, plainly, plain_outcome, plain_session, plain_unit, plain_state, takes_at, takes_in, OutOfNumbers}
 use Rattle.law_numbering.specs.claims.OnLine.{NoneSpent, ButNumbers, OnLine}
 use Rattle.law_numbering.proofs.Common.{none_left, passes_alike, differs_alike, counted_alike, numbered_alike, turned_alike, bytes_alike, setting_alike}
-use Rattle.law_numbering.proofs.Common.{Other, other, each_other, none_not}
+use Rattle.law_numbering.proofs.Common.{Other, OtherRefusal, other, each_other, none_not}
 
 -- an answer without the numbers, and what is given beside it
 record Same (a b : Taken) : Type 0 where
@@ -154,9 +156,9 @@ module _ (k : Core) where
   unfolding after
   after_not t done p = of_choice (λ (a : Taken). code_of a.refusal ≢ 25) _ (λ e. none_not) (λ e. p)
 
-done_not : (judged : Judged) (checksum fed : ℕ) (told : Event) → Passes Other judged → code_of (done_if judged checksum told fed).refusal ≢ 25
-done_not (Granted place) checksum fed told p = none_not
-done_not (Refused q) checksum fed told p = p.not_25
+done_not : (judged : Judged) (checksum fed : ℕ) (told : Event) → Passes OtherRefusal judged → code_of (done_if judged checksum told fed).refusal ≢ 25
+done_not (Ok place) checksum fed told p = none_not
+done_not (Err q) checksum fed told p = p.not_25
 
 -- a fill and a setting, by what they do where they are granted
 module _ (k : Core) (t u : Totals) (left : unnumbered t ≡ u) (wrote : Judged → ℕ → Wrote)
@@ -169,47 +171,47 @@ module _ (k : Core) (t u : Totals) (left : unnumbered t ≡ u) (wrote : Judged �
       ap₂ (λ (w : Wrote) (a : Taken). writing w a leaving memory judged) (alike judged k.tally.totals.next)
       (after_plain k t u left (done_if judged k.tally.checksum told fed)).told
 
-  written_granted : (place : ℕ) (spent : Bool) → Beside spent true (written k t (pick spent (Refused refusal.Number) (Granted place)))
-      (written (plain k) u (Granted place))
+  written_granted : (place : ℕ) (spent : Bool) → Beside spent true (written k t (pick spent (Err why.Number) (Ok place)))
+      (written (plain k) u (Ok place))
   unfolding after pick
   written_granted place true = lacks refl refl refl refl
-  written_granted place false = same none_not (written_plain (Granted place)) (λ s t. absurd (false≢true s))
+  written_granted place false = same none_not (written_plain (Ok place)) (λ s t. absurd (false≢true s))
 
-  written_beside : (judged : Judged) → Passes Other judged
+  written_beside : (judged : Judged) → Passes OtherRefusal judged
       → Beside (is_spent k.tally.totals) true (written k t (out_of_numbers k judged)) (written (plain k) u (out_of_numbers (plain k) judged))
   unfolding pick
-  written_beside (Granted place) p = written_granted place (is_spent k.tally.totals)
-  written_beside (Refused q) p = refused (after_refused k t (record { refusal = q; event = event.Nothing; checksum = k.tally.checksum }) p)
-      (written_plain (Refused q))
+  written_beside (Ok place) p = written_granted place (is_spent k.tally.totals)
+  written_beside (Err q) p = refused (after_refused k t (record { refusal = Some q; event = event.Nothing; checksum = k.tally.checksum }) p)
+      (written_plain (Err q))
 
 module _ (k : Core) (m : List ℕ) where
   load_plain : (address size : ℕ) (judged : Judged) → plain_outcome (load_begun k address size judged leaving m) ≡ load_begun (plain k) address size judged
       leaving m
-  load_plain address size (Granted place) =
+  load_plain address size (Ok place) =
       let fed : ℕ = pick k.on (fed_words k.tally.checksum (address ∷ size ∷ [])) k.tally.checksum in
       ap (λ (t : Totals). quiet (await k (tallied fed t) (awaited (place + size) size)) leaving m) (counted_alike k.dialect k.tally.totals size)
-  load_plain address size (Refused q) = refl
+  load_plain address size (Err q) = refl
 
   load_granted : (address size place : ℕ) (spent : Bool)
-      → Beside spent true (load_begun k address size (pick spent (Refused refusal.Number) (Granted place)) leaving m)
-      (load_begun (plain k) address size (Granted place) leaving m)
+      → Beside spent true (load_begun k address size (pick spent (Err why.Number) (Ok place)) leaving m)
+      (load_begun (plain k) address size (Ok place) leaving m)
   unfolding pick
   load_granted address size place true = lacks refl refl refl refl
-  load_granted address size place false = same none_not (load_plain address size (Granted place)) (λ s t. absurd (false≢true s))
+  load_granted address size place false = same none_not (load_plain address size (Ok place)) (λ s t. absurd (false≢true s))
 
-  load_beside : (address size : ℕ) (judged : Judged) → Passes Other judged
+  load_beside : (address size : ℕ) (judged : Judged) → Passes OtherRefusal judged
       → Beside (is_spent k.tally.totals) true (load_begun k address size (out_of_numbers k judged) leaving m)
       (load_begun (plain k) address size (out_of_numbers (plain k) judged) leaving m)
   unfolding pick
-  load_beside address size (Granted place) p = load_granted address size place (is_spent k.tally.totals)
-  load_beside address size (Refused q) p = refused p refl
+  load_beside address size (Ok place) p = load_granted address size place (is_spent k.tally.totals)
+  load_beside address size (Err q) p = refused p refl
 
   -- 18 is given alike
   abbrev past : ℕ → Bool
   past size = would_pass k.dialect k.tally.totals size
 
-  section_passes : (size : ℕ) (judged : Judged) → Passes Other judged → Passes Other (barred (past size) refusal.Overflow judged)
-  section_passes size judged p = barred_passes Other (past size) refusal.Overflow judged (other refusal.Overflow refl refl) p
+  section_passes : (size : ℕ) (judged : Judged) → Passes OtherRefusal judged → Passes OtherRefusal (barred (past size) why.Overflow judged)
+  section_passes size judged p = barred_passes OtherRefusal (past size) why.Overflow judged (other refusal.Overflow refl refl) p
 
   module _ (kept : Kept) (word : ℕ) where
     load_last : Beside (is_spent k.tally.totals) true (performed command.Load k m kept word) (performed command.Load (plain k) m kept word)
@@ -217,10 +219,10 @@ module _ (k : Core) (m : List ℕ) where
         let judged : Judged = load_judged k.windows kept.third word in
         subst
         (λ (t : Bool). Beside (is_spent k.tally.totals) true (performed command.Load k m kept word)
-        (load_begun (plain k) kept.third word (out_of_numbers (plain k) (barred t refusal.Overflow judged)) leaving m))
+        (load_begun (plain k) kept.third word (out_of_numbers (plain k) (barred t why.Overflow judged)) leaving m))
         (passes_alike k.dialect k.tally.totals word)
-        (load_beside kept.third word (barred (past word) refusal.Overflow judged)
-        (section_passes word judged (load_passes Other each_other k.windows kept.third word)))
+        (load_beside kept.third word (barred (past word) why.Overflow judged)
+        (section_passes word judged (load_passes OtherRefusal each_other k.windows kept.third word)))
 
     fill_last : Beside (is_spent k.tally.totals) true (performed command.Fill k m kept word) (performed command.Fill (plain k) m kept word)
     unfolding fill_done
@@ -233,11 +235,11 @@ module _ (k : Core) (m : List ℕ) where
         (λ (t : Bool). Beside (is_spent k.tally.totals) true (performed command.Fill k m kept word)
         (written k (counted_on k size) (counted_on (plain k) size) (counted_alike k.dialect k.tally.totals size) (λ j n. bytes_wrote j size n)
         (λ j n. bytes_alike j size n)
-        lent event.Nothing fed (plain k) (counted_on (plain k) size) (out_of_numbers (plain k) (barred t refusal.Overflow judged))))
+        lent event.Nothing fed (plain k) (counted_on (plain k) size) (out_of_numbers (plain k) (barred t why.Overflow judged))))
         (passes_alike k.dialect k.tally.totals size)
         (written_beside k (counted_on k size) (counted_on (plain k) size) (counted_alike k.dialect k.tally.totals size) (λ j n. bytes_wrote j size n)
-        (λ j n. bytes_alike j size n) lent event.Nothing fed (barred (past size) refusal.Overflow judged)
-        (section_passes size judged (fill_passes Other each_other k.windows kept.first size kept.third)))
+        (λ j n. bytes_alike j size n) lent event.Nothing fed (barred (past size) why.Overflow judged)
+        (section_passes size judged (fill_passes OtherRefusal each_other k.windows kept.first size kept.third)))
 
     setting_last : Beside (is_spent k.tally.totals) true (performed command.BootTable k m kept word) (performed command.BootTable (plain k) m kept word)
     unfolding setting_done
@@ -246,20 +248,20 @@ module _ (k : Core) (m : List ℕ) where
         (λ j n. setting_wrote j kept.first n)
         (λ j n. setting_alike j kept.first n) (λ j. setting_memory j m kept.first kept.third) (event.Wait word) k.tally.checksum
         (setting_judged k.windows kept.first kept.second kept.third)
-        (setting_passes Other each_other k.windows kept.first kept.second kept.third)
+        (setting_passes OtherRefusal each_other k.windows kept.first kept.second kept.third)
 
     close_last : Beside (is_spent k.tally.totals) false (performed command.JumpAndClose k m kept word) (performed command.JumpAndClose (plain k) m kept word)
     unfolding close_done
     close_last =
         let address : ℕ = close_address k.dialect kept word in
         let judged : Judged = entry_judged k.windows address in
-        let done_by : Bool → Done = λ t. done_if (barred t refusal.Totals judged) k.tally.checksum (event.Enter address) k.tally.checksum in
+        let done_by : Bool → Done = λ t. done_if (barred t why.Totals judged) k.tally.checksum (event.Enter address) k.tally.checksum in
         let differ : Bool = differs k.dialect k.tally.totals (standing kept.third word) in
         let t : Totals = k.tally.totals in
         free
         (λ q. after_not k t (done_by differ)
-        (done_not (barred differ refusal.Totals judged) k.tally.checksum k.tally.checksum (event.Enter address)
-        (barred_passes Other differ refusal.Totals judged (other refusal.Totals refl refl) (entry_passes Other each_other k.windows address)))
+        (done_not (barred differ why.Totals judged) k.tally.checksum k.tally.checksum (event.Enter address)
+        (barred_passes OtherRefusal differ why.Totals judged (other refusal.Totals refl refl) (entry_passes OtherRefusal each_other k.windows address)))
         (sym (ap code_of (entered_refusal (after k t (done_by differ)))) ∙ q))
         (ap (λ (a : Taken). a leaving m)
         (entered_plain (after k t (done_by differ))
@@ -299,21 +301,22 @@ no_taking d command.Ping words row = rw and-false
 no_taking d command.SequentialRead words row = rw and-false
 
 module _ (k : Core) (m : List ℕ) (word : ℕ) where
-  opcode_beside : (f : Found) → looked_up word Sent k.dialect ≡ f
+  opcode_beside : {f : Result Known Refusal} → Looked f → looked_up word Sent k.dialect ≡ f
       → Beside (is_spent k.tally.totals) false (at_opcode k m word f) (at_opcode (plain k) m word f)
-  opcode_beside Unknown known = free (other refusal.Opcode refl refl).not_25 refl
-  opcode_beside Retired known = free (other refusal.Retired refl refl).not_25 refl
-  opcode_beside (Known c words) known =
+  opcode_beside of_none known = free (other refusal.Opcode refl refl).not_25 refl
+  opcode_beside of_retired known = free (other refusal.Retired refl refl).not_25 refl
+  opcode_beside (of_row f) known =
       let core : Totals → Core = λ t. changed k k.ended k.on true (tallied k.tally.checksum t) k.stage.phase in
-      settle (no_taking k.dialect c words (row-is Sent k.dialect word c words known))
+      settle (no_taking k.dialect f.command f.words (row-is Sent k.dialect word f.command f.words known))
       (opening_beside word
       (subst
-      (λ (t : Totals). Beside (is_spent (turned c k.tally.totals)) (takes_at c words) (toward c words (begun c k) m none_kept 0)
-      (toward c words (core t) m none_kept 0))
-      (turned_alike c k.tally.totals) (toward_beside (begun c k) m none_kept 0 c words)))
+      (λ (t : Totals). Beside (is_spent (turned f.command k.tally.totals)) (takes_at f.command f.words)
+      (toward f.command f.words (begun f.command k) m none_kept 0)
+      (toward f.command f.words (core t) m none_kept 0))
+      (turned_alike f.command k.tally.totals) (toward_beside (begun f.command k) m none_kept 0 f.command f.words)))
 
   phase_beside : (p : Phase) → Beside (is_spent k.tally.totals) (takes_in p) (in_phase p k m word) (in_phase p (plain k) m word)
-  phase_beside phase.Opcode = opcode_beside (looked_up word Sent k.dialect) refl
+  phase_beside phase.Opcode = opcode_beside (looked word Sent k.dialect) refl
   phase_beside (phase.Argument c left kept) = toward_beside k m kept word c (left - 1)
   phase_beside (phase.Data end left) = free none_not refl
   phase_beside (phase.Echo n) = free none_not refl

@@ -10,11 +10,10 @@ use Rattle.windows.specs.declared.Window.{Window}
 use Rattle.opcodes.specs.declared.Command.{Command}
 use Rattle.opcodes.specs.declared.Command.TheVariants as command
 use Rattle.opcodes.specs.declared.Dialect.{Dialect}
-use Rattle.opcodes.specs.declared.Refusal.TheVariants as refusal
+use Rattle.opcodes.specs.declared.Refusal.TheVariants as why
 use Rattle.ledger.specs.rules.Totals.{is_spent, settled, turned}
 use Rattle.ledger.specs.declared.Totals.{Totals}
-use Rattle.commands.specs.rules.Commands.{load_judged, fill_judged, fill_done, setting_judged, setting_done}
-use Rattle.commands.specs.declared.Judged.{Judged}
+use Rattle.commands.specs.rules.Commands.{load_judged, fill_judged, fill_done, setting_judged, setting_done, Judged}
 use Rattle.commands.proofs.Judging.{granted_before, load_passes, fill_passes, setting_passes}
 use Rattle.sent.specs.rules.Bus.{all_units}
 use Rattle.sent.specs.rules.Feeding.{NoneRefused}
@@ -76,5 +75,5 @@ piece_accepted bus windows dialect on begun tally m lent (setting word address v
     done_not_refused _ _ (out_of_numbers k judged) _ _ _ (last_numbered k judged (judged_numbered windows (setting word address value delay)))
     (command_accepted bus windows dialect on begun tally m lent setting_opcode command.BootTable word (address ∷ value ∷ delay ∷ []) setting_apart
     (setting_row dialect) sendable.0.1 [] n) in
-    let parts = granted_before (is_spent (settled tally.totals)) refusal.Number judged g.place g.granted in
+    let parts = granted_before (is_spent (settled tally.totals)) why.Number judged g.place g.granted in
     record { at = record { place = g.place; granted = parts.1 }; fits = parts.0 }

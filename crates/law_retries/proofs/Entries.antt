@@ -1,5 +1,6 @@
 -- The theorem on the entries. An attempt stamps bits that its commands write, and no others; what follows stamps the bits that its commands write, by the same
 -- numbers with the attempt and without it, since the totals settle to the same. So it writes over all that the attempt stamped.
+use Rattle.std.specs.Prelude.{Ok, Err}
 use Prim.Native.Nat.{ℕ, ◌-◌, ◌*◌}
 use mathlib.Core.Bool.{Bool, true, false, ◌||◌, true≢false}
 use mathlib.Core.List.{List, [], ◌∷◌, ◌++◌, append-nil}
@@ -20,10 +21,8 @@ use Rattle.ledger.specs.rules.Totals.{settled, turned}
 use Rattle.ledger.specs.declared.Totals.{Totals}
 use Rattle.ledger.proofs.Attempts.{level_there}
 use Rattle.ledger.proofs.Laws.{settled_asks_nothing}
-use Rattle.commands.specs.rules.Commands.{shape_of}
+use Rattle.commands.specs.rules.Commands.{shape_of, Judged}
 use Rattle.commands.specs.rules.Wrote.{none_wrote, bytes_wrote, setting_wrote}
-use Rattle.commands.specs.declared.Judged.{Judged}
-use Rattle.commands.specs.declared.Judged.TheVariants.{Granted, Refused}
 use Rattle.commands.specs.declared.Wrote.{Wrote}
 use Rattle.law_effects.specs.claims.Effects.{Effect, writes, some_writes}
 use Rattle.law_effects.specs.claims.Wrote.{Reports}
@@ -53,8 +52,8 @@ use Rattle.law_retries.proofs.EntryWords.{Writes, nothing_writes, ◌so◌, entr
 
 -- what a command tells that it wrote, by its judgement; and several, each by the totals that the ones before it leave
 abbrev wrote_if : Dialect → Totals → Piece → Judged → Wrote
-wrote_if dialect t c (Granted place) = wrote_at dialect t c place
-wrote_if dialect t c (Refused q) = none_wrote
+wrote_if dialect t c (Ok place) = wrote_at dialect t c place
+wrote_if dialect t c (Err q) = none_wrote
 
 unfoldable wrotes_of : List Window → Dialect → Totals → List Piece → List Wrote
 wrotes_of windows dialect t [] = []
@@ -63,14 +62,14 @@ wrotes_of windows dialect t (c ∷ cs) = wrote_if dialect t c (judged_of windows
 -- by the same numbers, from totals that settle to the same
 wrote_at_alike : (dialect : Dialect) (a b : Totals) → settled a ≡ settled b → (c : Piece) (place : ℕ) → wrote_at dialect a c place ≡ wrote_at dialect b c place
 wrote_at_alike dialect a b same (load address size contents) place =
-    ap (λ (t : Totals). bytes_wrote (Granted place) size (t.next - 1)) (wrote_alike dialect (section size) a b same)
-wrote_at_alike dialect a b same (fill address size kind pattern) place = ap (λ (t : Totals). bytes_wrote (Granted place) size t.next) same
-wrote_at_alike dialect a b same (setting word address value delay) place = ap (λ (t : Totals). setting_wrote (Granted place) word t.next) same
+    ap (λ (t : Totals). bytes_wrote (Ok place) size (t.next - 1)) (wrote_alike dialect (section size) a b same)
+wrote_at_alike dialect a b same (fill address size kind pattern) place = ap (λ (t : Totals). bytes_wrote (Ok place) size t.next) same
+wrote_at_alike dialect a b same (setting word address value delay) place = ap (λ (t : Totals). setting_wrote (Ok place) word t.next) same
 
 wrote_if_alike : (dialect : Dialect) (a b : Totals) → settled a ≡ settled b → (c : Piece) (judged : Judged)
     → wrote_if dialect a c judged ≡ wrote_if dialect b c judged
-wrote_if_alike dialect a b same c (Granted place) = wrote_at_alike dialect a b same c place
-wrote_if_alike dialect a b same c (Refused q) = refl
+wrote_if_alike dialect a b same c (Ok place) = wrote_at_alike dialect a b same c place
+wrote_if_alike dialect a b same c (Err q) = refl
 
 wrotes_alike : (windows : List Window) (dialect : Dialect) (a b : Totals) → settled a ≡ settled b → (c : Piece) (cs : List Piece)
     → wrotes_of windows dialect a (c ∷ cs) ≡ wrotes_of windows dialect b (c ∷ cs)
@@ -83,15 +82,15 @@ wrotes_alike windows dialect a b same c cs =
 reported : (w : Wrote) (e : Effect) (p : ℕ) → Reports w e → tells w p ≡ writes e p
 reported w e p r = ap₂ (λ (first count : ℕ). within first count p) r.0 r.1
 
-tells_at : (windows : List Window) (dialect : Dialect) (t : Totals) (c : Piece) → Sendable c → (place : ℕ) → judged_of windows c ≡ Granted place → (p : ℕ)
+tells_at : (windows : List Window) (dialect : Dialect) (t : Totals) (c : Piece) → Sendable c → (place : ℕ) → judged_of windows c ≡ Ok place → (p : ℕ)
     → tells (wrote_at dialect t c place) p ≡ writes (effect_at c place) p
 tells_at windows dialect t (load address size contents) sendable place granted p =
     ap₂ (λ (first count : ℕ). within first count p) (omega arith) (ap (λ (n : ℕ). 8 * n) (sym (data_count size contents sendable.1)))
 tells_at windows dialect t (fill address size kind pattern) sendable place granted p =
-    reported (bytes_wrote (Granted place) size (settled t).next) (effect_at (fill address size kind pattern) place) p
+    reported (bytes_wrote (Ok place) size (settled t).next) (effect_at (fill address size kind pattern) place) p
     (fill_reports windows address size kind pattern place (settled t).next granted)
 tells_at windows dialect t (setting word address value delay) sendable place granted p =
-    reported (setting_wrote (Granted place) word (settled t).next) (effect_at (setting word address value delay) place) p
+    reported (setting_wrote (Ok place) word (settled t).next) (effect_at (setting word address value delay) place) p
     (shape_reports place value (settled t).next (shape_of word))
 
 tells_bits : (windows : List Window) (dialect : Dialect) (t : Totals) (cs : List Piece) → AllSendable cs → AllGranted windows cs → (p : ℕ)

@@ -16,8 +16,8 @@ use Rattle.windows.specs.rules.Window.{has_right, inside, grants_range, place_fr
 use Rattle.opcodes.specs.rules.Opcodes.{rows, row_serves, found_in, looked_up}
 use Rattle.opcodes.specs.declared.Dialect.{Dialect}
 use Rattle.opcodes.specs.declared.Dialect.TheVariants.{Am17xx, Dm648}
-use Rattle.opcodes.specs.declared.Refusal.{Refusal}
-use Rattle.opcodes.specs.declared.Refusal.TheVariants.{None}
+use Rattle.opcodes.specs.rules.Refusals.{Verdict}
+use Rattle.opcodes.specs.rules.Refusals.{None}
 use Rattle.ledger.specs.rules.Totals.{is_past, following}
 use Rattle.commands.specs.rules.Commands.{multiple, range_judged, unit_of, units_judged, field_shape, shape_of, too_wide, setting_done, setting_memory}
 use Rattle.bit_stamps.specs.rules.Stamps.{is_told, stamped_from, entry_at}
@@ -40,10 +40,10 @@ use Rattle.law_retries.specs.claims.EntryExample.{chosen, none, entry_of, swappe
 use Rattle.law_retries.proofs.Entries.{retries_leave_no_entry}
 
 -- what is refused of some words, and no refusal
-abbrev refusals : Bus → State → List ℕ → List Refusal
+abbrev refusals : Bus → State → List ℕ → List Verdict
 refusals bus x words = map (λ (h : Heard). h.refusal) (answers bus x (all_units bus words))
 
-abbrev quiet : Bus → List ℕ → List Refusal
+abbrev quiet : Bus → List ℕ → List Verdict
 quiet bus words = replicate (length (all_units bus words)) None
 
 -- all that is computed

@@ -1,5 +1,6 @@
 -- The entries after whole words, on either line: the units of a word stamp what the word tells that it wrote. So the words of a command that is granted stamp
 -- its bits by its number: a fill or a setting at its last word, a load in pieces.
+use Rattle.std.specs.Prelude.{Ok}
 use Prim.Native.Nat.{ℕ, suc, ◌+◌, ◌-◌, ◌*◌, ◌/◌, ◌^◌, ◌≤◌, ◌<◌, min}
 use mathlib.Core.Bool.{Bool, true, false}
 use mathlib.Core.List.{List, [], ◌∷◌, ◌++◌}
@@ -7,28 +8,26 @@ use mathlib.Core.Path.{◌≡◌, refl, sym, ap, ap₂, ◌∙◌}
 use native.Mathlib.Omega.{arith}
 use lib.Dec.{lit<, lit≤}
 use lib.ListN.{length, get_or}
+use Rattle.std.specs.declared.result.Result.TheVariants.{Ok}
 use Rattle.words.specs.rules.Bytes.{byte}
 use Rattle.words.specs.rules.Choice.{pick}
 use Rattle.checksum.specs.rules.Checksum as feeding
 use Rattle.windows.specs.rules.Window.{sum_of}
 use Rattle.windows.specs.declared.Window.{Window}
 use Rattle.opcodes.specs.rules.Answers.{code_of}
-use Rattle.opcodes.specs.rules.Opcodes.{looked_up}
+use Rattle.opcodes.specs.rules.Opcodes.{looked_up, with_words}
 use Rattle.opcodes.specs.declared.Command.{Command}
 use Rattle.opcodes.specs.declared.Command.TheVariants as command
 use Rattle.opcodes.specs.declared.Dialect.{Dialect}
 use Rattle.opcodes.specs.declared.Event.{Event}
 use Rattle.opcodes.specs.declared.Event.TheVariants.{Nothing, Wait}
-use Rattle.opcodes.specs.declared.Found.TheVariants.{Known}
 use Rattle.opcodes.specs.declared.Mode.TheVariants.{Sent}
 use Rattle.ledger.specs.claims.Attempts.{section, wrote}
 use Rattle.ledger.specs.rules.Totals.{settled}
 use Rattle.ledger.specs.declared.Totals.{Totals}
-use Rattle.commands.specs.rules.Commands.{load_judged, fill_done, fill_memory, setting_done, setting_memory}
+use Rattle.commands.specs.rules.Commands.{load_judged, fill_done, fill_memory, setting_done, setting_memory, Judged}
 use Rattle.stores.specs.rules.Stores.{loaded}
 use Rattle.commands.specs.rules.Wrote.{none_wrote, bytes_wrote, setting_wrote}
-use Rattle.commands.specs.declared.Judged.{Judged}
-use Rattle.commands.specs.declared.Judged.TheVariants.{Granted}
 use Rattle.commands.specs.declared.Wrote.{Wrote}
 use Rattle.commands.proofs.Judging.{unbarred}
 use Rattle.bit_stamps.specs.rules.Stamps.{stamped}
@@ -159,11 +158,11 @@ silent_word bus k m word ready e fine none =
 -- the data of a load, in pieces
 data_stamps : (bus : Bus) (places : List ℕ) (ws : List ℕ) (k : Core) (m entries : List ℕ) (p n : ℕ) → k.ended ≡ false → k.begun ≡ true
     → length m ≡ sum_of k.windows → AreWords ws → k.stage.phase ≡ awaited (p + n) n → length ws ≡ (n + 3) / 4
-    → entries_after bus places entries (at_word k m) (all_units bus ws) ≡ stamped entries places (bytes_wrote (Granted p) n (k.tally.totals.next - 1))
+    → entries_after bus places entries (at_word k m) (all_units bus ws) ≡ stamped entries places (bytes_wrote (Ok p) n (k.tally.totals.next - 1))
 unfolding entries_after stamped_by
 data_stamps bus places [] k m entries p n runs since lent small at whole =
     let none : 8 * n ≡ 0 = omega (arith, whole) in
-    sym (none_written entries places (bytes_wrote (Granted p) n (k.tally.totals.next - 1)) none)
+    sym (none_written entries places (bytes_wrote (Ok p) n (k.tally.totals.next - 1)) none)
 data_stamps bus places (w ∷ ws) k m entries p n runs since lent small at whole =
     let more : 0 < n = omega arith in
     let end : p + n ≡ p + min n 4 + (n - 4) = omega arith in
@@ -172,14 +171,14 @@ data_stamps bus places (w ∷ ws) k m entries p n runs since lent small at whole
     let later = await k (with_checksum k (pick k.on (feeding.fed k.tally.checksum w (8 * min n 4)) k.tally.checksum)) (awaited (p + n) (n - 4)) in
     let word = word_writes bus k m w (begun_ready bus k m w runs since lent small.0) step refl in
     let rest =
-    data_stamps bus places ws later (loaded m p (data_bytes w n)) (stamped entries places (bytes_wrote (Granted p) (min n 4) number)) (p + min n 4) (n - 4) runs
+    data_stamps bus places ws later (loaded m p (data_bytes w n)) (stamped entries places (bytes_wrote (Ok p) (min n 4) number)) (p + min n 4) (n - 4) runs
     since
     (length_loaded m p (data_bytes w n) ∙ lent) small.1 (ap (λ (e : ℕ). awaited e (n - 4)) end) (omega arith) in
     entries_append bus places entries (at_word k m) (units_of bus w) (all_units bus ws)
     ∙ ap₂ (λ (es : List ℕ) (x : State). entries_after bus places es x (all_units bus ws)) (word.stamps places entries) word.leads
     ∙ rest
-    ∙ (stamp_laws entries places).in_pieces (bytes_wrote (Granted p) (min n 4) number) (bytes_wrote (Granted (p + min n 4)) (n - 4) number)
-    (bytes_wrote (Granted p) n number)
+    ∙ (stamp_laws entries places).in_pieces (bytes_wrote (Ok p) (min n 4) number) (bytes_wrote (Ok (p + min n 4)) (n - 4) number)
+    (bytes_wrote (Ok p) n number)
     (record { low = refl; next = omega arith; count = omega arith; numbers = (refl, refl) })
 
 module _ (bus : Bus) (windows : List Window) (dialect : Dialect) (on : Bool) where
@@ -201,7 +200,8 @@ module _ (bus : Bus) (windows : List Window) (dialect : Dialect) (on : Bool) whe
 
   module _ (begun : Bool) (tally : Tally) (m : List ℕ) (lent : length m ≡ sum_of windows) where
     -- a command up to the word that decides
-    command_writes : (opcode : ℕ) (c : Command) (word : ℕ) (rest : List ℕ) → Apart opcode → looked_up opcode Sent dialect ≡ Known c (suc (length rest))
+    command_writes : (opcode : ℕ) (c : Command) (word : ℕ) (rest : List ℕ) → Apart opcode
+        → looked_up opcode Sent dialect ≡ Ok (with_words c (suc (length rest)))
         → AreWords (word ∷ rest) → {reply : Reply} {event : Event} {k : Core} {told : Wrote} {left : List ℕ}
         → done_at_last c (taken bus windows dialect on begun tally m lent c) m none_kept word rest ≡ accepted reply event k told left
         → Writes bus (awaiting windows dialect on begun tally m) (all_units bus (opcode ∷ word ∷ rest)) (at_word k left) (told ∷ [])
@@ -211,7 +211,7 @@ module _ (bus : Bus) (windows : List Window) (dialect : Dialect) (on : Bool) whe
         so arguments_write c _ m lent none_kept word rest small e
 
     -- an opcode that has no words, and writes nothing
-    pub opcode_silent : (opcode : ℕ) (c : Command) → Apart opcode → looked_up opcode Sent dialect ≡ Known c 0
+    pub opcode_silent : (opcode : ℕ) (c : Command) → Apart opcode → looked_up opcode Sent dialect ≡ Ok (with_words c 0)
         → {reply : Reply} {event : Event} {k : Core} {left : List ℕ}
         → opening opcode (performed c (taken bus windows dialect on begun tally m lent c) m none_kept 0) ≡ accepted reply event k none_wrote left
         → Writes bus (awaiting windows dialect on begun tally m) (units_of bus opcode) (at_word k left) []
@@ -222,7 +222,7 @@ module _ (bus : Bus) (windows : List Window) (dialect : Dialect) (on : Bool) whe
 
     module _ (address size place : ℕ)
         (granted : out_of_numbers (taken bus windows dialect on begun tally m lent command.Load)
-        (overflowing (taken bus windows dialect on begun tally m lent command.Load) size (load_judged windows address size)) ≡ Granted place) where
+        (overflowing (taken bus windows dialect on begun tally m lent command.Load) size (load_judged windows address size)) ≡ Ok place) where
       -- a load, granted at its size word, and its data
       abbrev loading : Core
       loading =
@@ -240,7 +240,7 @@ module _ (bus : Bus) (windows : List Window) (dialect : Dialect) (on : Bool) whe
 
       load_stamps : (contents : List ℕ) → address < 2 ^ 32 → size < 2 ^ 32 → AreWords contents → length contents ≡ (size + 3) / 4 → (places entries : List ℕ)
           → entries_after bus places entries (awaiting windows dialect on begun tally m) (all_units bus (load_opcode ∷ address ∷ size ∷ contents))
-          ≡ stamped entries places (bytes_wrote (Granted place) size ((wrote dialect tally.totals (section size)).next - 1))
+          ≡ stamped entries places (bytes_wrote (Ok place) size ((wrote dialect tally.totals (section size)).next - 1))
       unfolding stamped_by
       load_stamps contents address< size< small whole places entries =
           let begins = load_begins address< size< in
@@ -251,21 +251,21 @@ module _ (bus : Bus) (windows : List Window) (dialect : Dialect) (on : Bool) whe
           ∙ data_stamps bus places contents loading m entries place size refl refl lent small refl whole
 
     fill_writes : (address size kind pattern : ℕ) → Sendable (fill address size kind pattern) → {place : ℕ}
-        → judged_of windows (fill address size kind pattern) ≡ Granted place → Room dialect tally.totals (section size)
+        → judged_of windows (fill address size kind pattern) ≡ Ok place → Room dialect tally.totals (section size)
         → Writes bus (awaiting windows dialect on begun tally m) (all_units bus (words_of (fill address size kind pattern)))
         (awaiting windows dialect on true (tally_of dialect on (fill address size kind pattern) tally) (memory_of windows (fill address size kind pattern) m))
-        (bytes_wrote (Granted place) size (settled tally.totals).next ∷ [])
+        (bytes_wrote (Ok place) size (settled tally.totals).next ∷ [])
     unfolding pick done_at_last after fill_done fill_memory
     fill_writes address size kind pattern sendable granted fits =
         command_writes fill_opcode command.Fill address (size ∷ kind ∷ pattern ∷ []) fill_apart (fill_row dialect)
         sendable.0.1 {reply = silence} {event = Nothing} (rw (granted, fits.0, fits.1) refl)
 
     setting_writes : (word address value delay : ℕ) → Sendable (setting word address value delay) → {place : ℕ}
-        → judged_of windows (setting word address value delay) ≡ Granted place → Room dialect tally.totals (write_of (setting word address value delay))
+        → judged_of windows (setting word address value delay) ≡ Ok place → Room dialect tally.totals (write_of (setting word address value delay))
         → Writes bus (awaiting windows dialect on begun tally m) (all_units bus (words_of (setting word address value delay)))
         (awaiting windows dialect on true (tally_of dialect on (setting word address value delay) tally)
         (memory_of windows (setting word address value delay) m))
-        (setting_wrote (Granted place) word (settled tally.totals).next ∷ [])
+        (setting_wrote (Ok place) word (settled tally.totals).next ∷ [])
     unfolding pick done_at_last after setting_done setting_memory
     setting_writes word address value delay sendable granted fits =
         command_writes setting_opcode command.BootTable word (address ∷ value ∷ delay ∷ []) setting_apart (setting_row dialect)
@@ -273,18 +273,18 @@ module _ (bus : Bus) (windows : List Window) (dialect : Dialect) (on : Bool) whe
 
 -- what a command tells that it wrote, from a place on: its bits, by the number that it takes
 abbrev pub wrote_at : Dialect → Totals → Piece → ℕ → Wrote
-wrote_at dialect t (load address size contents) place = bytes_wrote (Granted place) size ((wrote dialect t (section size)).next - 1)
-wrote_at dialect t (fill address size kind pattern) place = bytes_wrote (Granted place) size (settled t).next
-wrote_at dialect t (setting word address value delay) place = setting_wrote (Granted place) word (settled t).next
+wrote_at dialect t (load address size contents) place = bytes_wrote (Ok place) size ((wrote dialect t (section size)).next - 1)
+wrote_at dialect t (fill address size kind pattern) place = bytes_wrote (Ok place) size (settled t).next
+wrote_at dialect t (setting word address value delay) place = setting_wrote (Ok place) word (settled t).next
 
 pub piece_stamps : (bus : Bus) (windows : List Window) (dialect : Dialect) (on begun : Bool) (tally : Tally) (m : List ℕ) → length m ≡ sum_of windows
-    → (c : Piece) → Sendable c → {place : ℕ} → judged_of windows c ≡ Granted place → Room dialect tally.totals (write_of c) → (places entries : List ℕ)
+    → (c : Piece) → Sendable c → {place : ℕ} → judged_of windows c ≡ Ok place → Room dialect tally.totals (write_of c) → (places entries : List ℕ)
     → entries_after bus places entries (awaiting windows dialect on begun tally m) (all_units bus (words_of c)) ≡ stamped entries places
     (wrote_at dialect tally.totals c place)
 unfolding stamped_by
 piece_stamps bus windows dialect on begun tally m lent (load address size contents) sendable {place} granted fits places entries =
     let judged : out_of_numbers (taken bus windows dialect on begun tally m lent command.Load)
-    (overflowing (taken bus windows dialect on begun tally m lent command.Load) size (load_judged windows address size)) ≡ Granted place =
+    (overflowing (taken bus windows dialect on begun tally m lent command.Load) size (load_judged windows address size)) ≡ Ok place =
     unbarred _ _ _ fits.1 ∙ unbarred _ _ _ fits.0 ∙ granted in
     load_stamps bus windows dialect on begun tally m lent address size place judged contents sendable.0.1.0 sendable.0.1.1.0 sendable.0.1.1.1
     sendable.1 places entries

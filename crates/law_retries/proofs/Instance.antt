@@ -10,8 +10,8 @@ use Rattle.law_effects.specs.claims.Effects.{some_writes}
 use Rattle.opcodes.specs.declared.Dialect.{Dialect}
 use Rattle.opcodes.specs.declared.Dialect.TheVariants.{Am17xx, Dm648}
 use Rattle.opcodes.specs.declared.Event.TheVariants.{Nothing}
-use Rattle.opcodes.specs.declared.Refusal.{Refusal}
-use Rattle.opcodes.specs.declared.Refusal.TheVariants.{None, Memory}
+use Rattle.opcodes.specs.rules.Refusals.{Verdict}
+use Rattle.opcodes.specs.rules.Refusals.{None, Memory}
 use Rattle.words.specs.rules.Bits.{bit, join, with_field, within}
 use Rattle.words.specs.rules.Bytes.{byte, number, bytes_at, put, fits, field_fits, field_written}
 use Rattle.words.specs.rules.Choice.{pick}
@@ -73,10 +73,10 @@ sendable field low high word field< low< high< word< = (
 )
 
 -- what is refused of the units of words, and no refusal
-abbrev refusals : Bus → State → List ℕ → List Refusal
+abbrev refusals : Bus → State → List ℕ → List Verdict
 refusals bus x words = map (λ (h : Heard). h.refusal) (answers bus x (all_units bus words))
 
-abbrev quiet : Bus → List ℕ → List Refusal
+abbrev quiet : Bus → List ℕ → List Verdict
 quiet bus words = replicate (length (all_units bus words)) None
 
 -- memory and map are eight bytes long

@@ -1,6 +1,7 @@
 -- A whole command on either line: from any running session that awaits an opcode, the words of a granted load, fill or setting lead to the same session, begun,
 -- with the command's checksum, totals and memory; what is heard of them does not depend on these or on whether it had begun. Word by word, each by the lift;
 -- what the words come to is the law over the opcode table, whatever the command.
+use Rattle.std.specs.Prelude.{Ok}
 use Prim.Native.Nat.{ℕ, suc, ◌+◌, ◌-◌, ◌/◌, ◌%◌, ◌^◌, ◌<◌}
 use mathlib.Core.Bool.{Bool, true, false, true≢false}
 use mathlib.Core.List.{List, [], ◌∷◌, ◌++◌}
@@ -10,30 +11,28 @@ use native.Mathlib.Omega.{arith}
 use lib.Dec.{eqb, lit<}
 use lib.ListN.{length, replicate}
 use borrow.Author.Tests.{eqb-false}
+use Rattle.std.specs.declared.result.Result.TheVariants.{Ok}
 use Rattle.words.specs.rules.Bytes.{byte}
 use Rattle.words.specs.rules.Choice.{pick}
 use Rattle.words.proofs.Puts.{length_put}
 use Rattle.checksum.specs.rules.Checksum as feeding
 use Rattle.windows.specs.rules.Window.{sum_of}
 use Rattle.windows.specs.declared.Window.{Window}
-use Rattle.opcodes.specs.rules.Opcodes.{rows, row_serves, found_in, looked_up}
+use Rattle.opcodes.specs.rules.Opcodes.{rows, row_serves, found_in, looked_up, with_words}
 use Rattle.opcodes.specs.declared.Command.{Command}
 use Rattle.opcodes.specs.declared.Command.TheVariants as command
 use Rattle.opcodes.specs.declared.Dialect.{Dialect}
 use Rattle.opcodes.specs.declared.Dialect.TheVariants.{Am17xx, Dm648}
 use Rattle.opcodes.specs.declared.Event.{Event}
 use Rattle.opcodes.specs.declared.Event.TheVariants.{Nothing, Wait}
-use Rattle.opcodes.specs.declared.Found.TheVariants.{Known}
 use Rattle.opcodes.specs.declared.Mode.TheVariants.{Sent}
-use Rattle.opcodes.specs.declared.Refusal.TheVariants as refusal
+use Rattle.opcodes.specs.rules.Refusals as refusal
 use Rattle.ledger.specs.claims.Attempts.{Write, section, setting as no_section, wrote}
 use Rattle.ledger.specs.rules.Totals.{would_pass, is_spent, settled, turned}
 use Rattle.ledger.specs.declared.Totals.{Totals}
-use Rattle.commands.specs.rules.Commands.{load_judged, fill_judged, setting_judged, fill_done, fill_memory, setting_done, setting_memory, memory_if}
+use Rattle.commands.specs.rules.Commands.{load_judged, fill_judged, setting_judged, fill_done, fill_memory, setting_done, setting_memory, memory_if, Judged}
 use Rattle.stores.specs.rules.Stores.{loaded, load_fed}
 use Rattle.commands.proofs.Judging.{unbarred}
-use Rattle.commands.specs.declared.Judged.{Judged}
-use Rattle.commands.specs.declared.Judged.TheVariants.{Granted}
 use Rattle.commands.specs.rules.Wrote.{bytes_wrote, setting_wrote}
 use Rattle.commands.specs.declared.Wrote.{Wrote}
 use Rattle.sent.specs.rules.Bus.{units_in_word, start_unit, units_of, all_units, first_unit}
@@ -145,7 +144,7 @@ setting_apart = record { small = lit< tt; no_byte = refl; no_half = refl }
 
 -- the rows of what is sent here are the same in either dialect
 abbrev Row : ℕ → Command → ℕ → Type 0
-Row opcode c words = (dialect : Dialect) → looked_up opcode Sent dialect ≡ Known c words
+Row opcode c words = (dialect : Dialect) → looked_up opcode Sent dialect ≡ Ok (with_words c words)
 
 pub load_row : Row load_opcode command.Load 2
 unfolding looked_up found_in rows row_serves pick
@@ -255,21 +254,22 @@ module _ (bus : Bus) (windows : List Window) (dialect : Dialect) (on : Bool) whe
     opcode_ready opcode apart = record { running = refl; lent = lent; small = apart.small; plain = λ e. no_start bus apart }
 
     -- one that has no words
-    pub opcode_word : (opcode : ℕ) (c : Command) → looked_up opcode Sent dialect ≡ Known c 0
+    pub opcode_word : (opcode : ℕ) (c : Command) → looked_up opcode Sent dialect ≡ Ok (with_words c 0)
         → {reply : Reply} {event : Event} {k : Core} {wrote : Wrote} {left : List ℕ}
         → opening opcode (performed c (taken c) m none_kept 0) ≡ accepted reply event k wrote left
         → word_step (running windows dialect on begun tally phase.Opcode) m opcode ≡ accepted reply event k wrote left
     unfolding after_words
     opcode_word opcode c known e = by_the_table.done _ m opcode c 0 [] refl known refl ∙ e
 
-    pub opcode_goes : (opcode : ℕ) (c : Command) → Apart opcode → looked_up opcode Sent dialect ≡ Known c 0
+    pub opcode_goes : (opcode : ℕ) (c : Command) → Apart opcode → looked_up opcode Sent dialect ≡ Ok (with_words c 0)
         → {reply : Reply} {event : Event} {k : Core} {wrote : Wrote} {left : List ℕ}
         → opening opcode (performed c (taken c) m none_kept 0) ≡ accepted reply event k wrote left
         → Goes bus (awaiting windows dialect on begun tally m) (units_of bus opcode) (at_word k left) (heard_said bus reply event)
     opcode_goes opcode c apart known e = accepted_goes bus _ m opcode (opcode_ready opcode apart) (opcode_word opcode c known e) refl
 
     -- one that has, up to the word that decides
-    module _ (opcode : ℕ) (c : Command) (word : ℕ) (rest : List ℕ) (apart : Apart opcode) (known : looked_up opcode Sent dialect ≡ Known c (suc (length rest)))
+    module _ (opcode : ℕ) (c : Command) (word : ℕ) (rest : List ℕ) (apart : Apart opcode)
+        (known : looked_up opcode Sent dialect ≡ Ok (with_words c (suc (length rest))))
         (small : AreWords (word ∷ rest)) where
       asked_goes : Goes bus (awaiting windows dialect on begun tally m) (units_of bus opcode)
           (at_word (asking (taken c) c (suc (length rest)) none_kept) m)
@@ -306,7 +306,7 @@ module _ (bus : Bus) (windows : List Window) (dialect : Dialect) (on : Bool) whe
 
     -- a load that is granted at its size word, and its data
     module _ (address size place : ℕ) (granted : out_of_numbers (taken command.Load) (overflowing (taken command.Load) size (load_judged windows address size))
-        ≡ Granted place) where
+        ≡ Ok place) where
       abbrev loading : Core
       loading =
           running windows dialect on true
@@ -332,12 +332,12 @@ module _ (bus : Bus) (windows : List Window) (dialect : Dialect) (on : Bool) whe
           ∙ load_in_pieces k m (keeping none_kept address) size place contents granted whole)
 
     -- a granted command that takes no total past the largest and finds a number
-    pub piece_goes : (c : Piece) → Sendable c → {place : ℕ} → judged_of windows c ≡ Granted place → Room dialect tally.totals (write_of c)
+    pub piece_goes : (c : Piece) → Sendable c → {place : ℕ} → judged_of windows c ≡ Ok place → Room dialect tally.totals (write_of c)
         → Goes bus (awaiting windows dialect on begun tally m) (all_units bus (words_of c))
         (awaiting windows dialect on true (tally_of dialect on c tally) (memory_of windows c m)) (heard_of bus c)
     unfolding pick done_at_last after fill_done fill_memory setting_done setting_memory
     piece_goes (load address size contents) sendable {place} granted fits =
-        let judged : out_of_numbers (taken command.Load) (overflowing (taken command.Load) size (load_judged windows address size)) ≡ Granted place = unbarred _
+        let judged : out_of_numbers (taken command.Load) (overflowing (taken command.Load) size (load_judged windows address size)) ≡ Ok place = unbarred _
         _ _ fits.1 ∙ unbarred _ _ _ fits.0 ∙ granted in
         rw granted
         (words_go (load_opcode ∷ address ∷ size ∷ []) contents (load_begins address size place judged sendable.0.1.0 sendable.0.1.1.0)
@@ -346,7 +346,7 @@ module _ (bus : Bus) (windows : List Window) (dialect : Dialect) (on : Bool) whe
         (load_lands address size place judged contents sendable.1)))
     piece_goes (fill address size kind pattern) sendable {place} granted fits =
         command_goes fill_opcode command.Fill address (size ∷ kind ∷ pattern ∷ []) fill_apart (fill_row dialect)
-        sendable.0.1 {wrote = bytes_wrote (Granted place) size (settled tally.totals).next} (rw (granted, fits.0, fits.1) refl)
+        sendable.0.1 {wrote = bytes_wrote (Ok place) size (settled tally.totals).next} (rw (granted, fits.0, fits.1) refl)
     piece_goes (setting word address value delay) sendable {place} granted fits =
         command_goes setting_opcode command.BootTable word (address ∷ value ∷ delay ∷ []) setting_apart (setting_row dialect)
-        sendable.0.1 {wrote = setting_wrote (Granted place) word (settled tally.totals).next} (rw (granted, fits) refl)
+        sendable.0.1 {wrote = setting_wrote (Ok place) word (settled tally.totals).next} (rw (granted, fits) refl)

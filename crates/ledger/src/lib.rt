@@ -2,21 +2,21 @@
 #![tactic(auto)]
 
 ghost use Rattle.std.specs.Prelude.{◌≡◌};
-ghost use Rattle.ledger.specs.rules.Totals.{nothing, at_opening, from_one, is_past, would_pass, is_other, differs, one_more, with_now, counted, is_spent};
+ghost use Rattle.ledger.specs.rules.Totals.{nothing, at_opening, from_one, is_past, would_pass, differs, one_more, counted, is_spent};
 ghost use Rattle.ledger.specs.rules.Totals.{following, numbered, marked, settled, asking, put_back, turned, in_flash};
 
 use opcodes::{Command, Dialect};
 
 // How many sections were loaded.
-#[derive(Clone, Copy)]
+#[derive(Clone, Copy, Debug, PartialEq, Eq)]
 pub struct Sections(pub u32);
 
 // How many bytes were loaded.
-#[derive(Clone, Copy)]
+#[derive(Clone, Copy, Debug, PartialEq, Eq)]
 pub struct Bytes(pub u32);
 
 // What stands at a point of a session.
-#[derive(Clone, Copy)]
+#[derive(Clone, Copy, Debug, PartialEq, Eq)]
 pub struct Standing {
     pub sections: Sections,
     pub bytes: Bytes,
@@ -24,7 +24,7 @@ pub struct Standing {
 
 // What stands now and what stood at the mark; `asked` while a Request stands unsettled. `next` is the number of the next command, `back` what it was at the
 // mark; both are 0 where no numbers are kept.
-#[derive(Clone, Copy)]
+#[derive(Clone, Copy, Debug, PartialEq, Eq)]
 pub struct Totals {
     pub now: Standing,
     pub mark: Standing,
@@ -35,7 +35,7 @@ pub struct Totals {
 
 // What a flash call that is accepted may be to the totals: a load or a fill of so many bytes, a setting, an Enable, a Request that matches, one that leads to a
 // retry, any other command.
-#[derive(Clone, Copy)]
+#[derive(Clone, Copy, Debug, PartialEq, Eq)]
 pub enum Happening {
     Section(u32),
     Setting,
@@ -84,10 +84,11 @@ impl Totals {
     pub fn from_one(self) -> Totals
         ensures { result ≡ from_one self }
     {
-        let mut first = self;
-        first.next = 1;
-        first.back = 1;
-        first
+        Totals {
+            next: 1,
+            back: 1,
+            ..self
+        }
     }
 
     // Are the numbers spent?
@@ -101,19 +102,19 @@ impl Totals {
     pub fn number(self) -> Totals
         ensures { result ≡ numbered self }
     {
-        let mut later = self;
-        later.next = following(self.next);
-        later
+        Totals {
+            next: following(self.next),
+            ..self
+        }
     }
 
     // Does one more section of so many bytes take a total past the largest? Only a DM648 counts.
     pub fn would_pass(self, dialect: Dialect, size: u32) -> bool
         ensures { result ≡ would_pass dialect self size }
     {
-        let now = self.now;
         match dialect {
             Dialect::Am17xx => false,
-            Dialect::Dm648 => is_past(now, size),
+            Dialect::Dm648 => is_past(self.now, size),
         }
     }
 
@@ -121,10 +122,9 @@ impl Totals {
     pub fn differ(self, dialect: Dialect, named: Standing) -> bool
         ensures { result ≡ differs dialect self named }
     {
-        let now = self.now;
         match dialect {
             Dialect::Am17xx => false,
-            Dialect::Dm648 => is_other(now, named),
+            Dialect::Dm648 => self.now != named,
         }
     }
 
@@ -132,10 +132,12 @@ impl Totals {
     pub fn count(self, dialect: Dialect, size: u32) -> Totals
         ensures { result ≡ counted dialect self size }
     {
-        let now = self.now;
         match dialect {
             Dialect::Am17xx => self,
-            Dialect::Dm648 => with_now(self, one_more(now, size)),
+            Dialect::Dm648 => Totals {
+                now: one_more(self.now, size),
+                ..self
+            },
         }
     }
 
@@ -143,14 +145,11 @@ impl Totals {
     pub fn mark(self) -> Totals
         ensures { result ≡ marked self }
     {
-        let now = self.now;
-        let next = self.next;
         Totals {
-            now,
-            mark: now,
+            mark: self.now,
             asked: false,
-            next,
-            back: next,
+            back: self.next,
+            ..self
         }
     }
 
@@ -168,14 +167,9 @@ impl Totals {
     pub fn ask(self) -> Totals
         ensures { result ≡ asking self }
     {
-        let now = self.now;
-        let stood = self.mark;
         Totals {
-            now,
-            mark: stood,
             asked: true,
-            next: self.next,
-            back: self.back,
+            ..self
         }
     }
 
@@ -183,14 +177,11 @@ impl Totals {
     pub fn put_back(self) -> Totals
         ensures { result ≡ put_back self }
     {
-        let mark = self.mark;
-        let back = self.back;
         Totals {
-            now: mark,
-            mark,
+            now: self.mark,
             asked: false,
-            next: back,
-            back,
+            next: self.back,
+            ..self
         }
     }
 
@@ -241,37 +232,17 @@ fn nothing() -> Standing
 fn is_past(now: Standing, size: u32) -> bool
     ensures { result ≡ is_past now size }
 {
-    let sections = now.sections;
-    let bytes = now.bytes;
-    if Totals::MOST < (sections.0 as u64) + 1 {
-        return true;
-    }
-    Totals::MOST < (bytes.0 as u64) + (size as u64)
-}
-
-// Is one total or the other not what is named?
-fn is_other(now: Standing, named: Standing) -> bool
-    ensures { result ≡ is_other now named }
-{
-    let sections = now.sections;
-    let bytes = now.bytes;
-    let named_sections = named.sections;
-    let named_bytes = named.bytes;
-    if sections.0 != named_sections.0 {
-        return true;
-    }
-    bytes.0 != named_bytes.0
+    Totals::MOST < (now.sections.0 as u64) + 1
+        || Totals::MOST < (now.bytes.0 as u64) + (size as u64)
 }
 
 // One more section of so many bytes.
 fn one_more(now: Standing, size: u32) -> Standing
     ensures { result ≡ one_more now size }
 {
-    let sections = now.sections;
-    let bytes = now.bytes;
     Standing {
-        sections: Sections(std::num::wrapping_add_u32(sections.0, 1)),
-        bytes: Bytes(std::num::wrapping_add_u32(bytes.0, size)),
+        sections: Sections(now.sections.0.wrapping_add(1)),
+        bytes: Bytes(now.bytes.0.wrapping_add(size)),
     }
 }
 
@@ -286,13 +257,4 @@ fn following(number: u32) -> u32
         return number;
     }
     number + 1
-}
-
-// The same mark, with something else standing now.
-fn with_now(totals: Totals, now: Standing) -> Totals
-    ensures { result ≡ with_now totals now }
-{
-    let mut next = totals;
-    next.now = now;
-    next
 }

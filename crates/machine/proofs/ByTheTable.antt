@@ -6,13 +6,15 @@ use mathlib.Core.Path.{◌≡◌, refl, sym, ap, subst, ◌∙◌}
 use native.Mathlib.Omega.{arith}
 use lib.ListN.{length}
 use borrow.Author.Tests.{eq-eqb, ne_eqb}
+use Rattle.std.specs.declared.result.Result.{Result}
+use Rattle.std.specs.declared.result.Result.TheVariants.{Ok}
 use Rattle.words.specs.rules.Choice.{pick}
 use Rattle.words.proofs.Choice.{chosen, passed}
-use Rattle.opcodes.specs.rules.Opcodes.{looked_up}
+use Rattle.opcodes.specs.rules.Opcodes.{looked_up, with_words}
 use Rattle.opcodes.specs.declared.Command.{Command}
-use Rattle.opcodes.specs.declared.Found.{Found}
-use Rattle.opcodes.specs.declared.Found.TheVariants.{Known}
 use Rattle.opcodes.specs.declared.Mode.TheVariants.{Sent}
+use Rattle.opcodes.specs.declared.Known.{Known}
+use Rattle.opcodes.specs.declared.Refusal.{Refusal}
 use Rattle.machine_answers.specs.rules.Answers.{WordOutcome, said, quiet, ◌leaving◌}
 use Rattle.machine_commands.specs.rules.Performed.{none_kept, performed}
 use Rattle.machine.specs.rules.Machine.{keeping, toward, begun, acknowledging, opening, at_opcode, in_phase, word_step}
@@ -74,10 +76,10 @@ after_append o (w ∷ ws) vs = after_append (word_step o.answer.core o.memory w)
 
 -- an opcode that the table has
 module _ (k : Core) (m : List ℕ) (opcode : ℕ) {command : Command} {words : ℕ} (idle : k.stage.phase ≡ Opcode)
-    (known : looked_up opcode Sent k.dialect ≡ Known command words) where
+    (known : looked_up opcode Sent k.dialect ≡ Ok (with_words command words)) where
   pub opcode_step : word_step k m opcode ≡ opening opcode (toward command words (begun command k) m none_kept 0)
   unfolding word_step
-  opcode_step = ap (λ (p : Phase). in_phase p k m opcode) idle ∙ ap (λ (f : Found). at_opcode k m opcode f) known
+  opcode_step = ap (λ (p : Phase). in_phase p k m opcode) idle ∙ ap (λ (f : Result Known Refusal). at_opcode k m opcode f) known
 
 -- one that has words is acknowledged, and they are awaited
 acknowledged_quiet : (opcode : ℕ) (k : Core) (m : List ℕ) → opening opcode (quiet k leaving m) ≡ said (one_word (acknowledged opcode)) k leaving m
@@ -85,13 +87,13 @@ unfolding acknowledging pick one_word word_then
 acknowledged_quiet opcode k m = refl
 
 module _ (k : Core) (m : List ℕ) (opcode : ℕ) {command : Command} where
-  pub opcode_asks : (left : ℕ) → k.stage.phase ≡ Opcode → looked_up opcode Sent k.dialect ≡ Known command (suc left)
+  pub opcode_asks : (left : ℕ) → k.stage.phase ≡ Opcode → looked_up opcode Sent k.dialect ≡ Ok (with_words command (suc left))
       → word_step k m opcode ≡ said (one_word (acknowledged opcode)) (asking (begun command k) command (suc left) none_kept) leaving m
   opcode_asks left idle known =
       opcode_step k m opcode idle known ∙ ap (opening opcode) (toward_more command (begun command k) m none_kept 0 left)
       ∙ acknowledged_quiet opcode (asking (begun command k) command (suc left) (keeping none_kept 0)) m
 
-  opcode_waits : (left : ℕ) → k.stage.phase ≡ Opcode → looked_up opcode Sent k.dialect ≡ Known command (suc left)
+  opcode_waits : (left : ℕ) → k.stage.phase ≡ Opcode → looked_up opcode Sent k.dialect ≡ Ok (with_words command (suc left))
       → Waits command (begun command k) m left none_kept (word_step k m opcode)
   opcode_waits left idle known =
       let step = opcode_asks left idle known in
@@ -100,7 +102,7 @@ module _ (k : Core) (m : List ℕ) (opcode : ℕ) {command : Command} where
         memory = ap (λ (o : WordOutcome). o.memory) step;
       }
 
-  opcode_done : (arguments : List ℕ) → k.stage.phase ≡ Opcode → looked_up opcode Sent k.dialect ≡ Known command (length arguments)
+  opcode_done : (arguments : List ℕ) → k.stage.phase ≡ Opcode → looked_up opcode Sent k.dialect ≡ Ok (with_words command (length arguments))
       → after_words (word_step k m opcode) arguments ≡ done_with opcode command (begun command k) m arguments
   unfolding after_words
   opcode_done [] idle known = opcode_step k m opcode idle known ∙ ap (opening opcode) (chosen _ _ _ (eq-eqb 0 0 refl))
@@ -117,10 +119,11 @@ last_kept before first second third = refl
 pub by_the_table : ByTheTable
 by_the_table =
     record {
-      done = λ k m opcode command words arguments idle known count. opcode_done k m opcode arguments idle (known ∙ ap (Known command) (sym count));
+      done = λ k m opcode command words arguments idle known count.
+          opcode_done k m opcode arguments idle (known ∙ ap (λ (n : ℕ). Ok (with_words command n)) (sym count));
       waits = λ k m opcode command words arguments left idle known count.
           let all : suc (length arguments + left) ≡ length arguments + suc left = omega arith in
-          let first = opcode_waits k m opcode (length arguments + left) idle (known ∙ ap (Known command) (sym (all ∙ count))) in
+          let first = opcode_waits k m opcode (length arguments + left) idle (known ∙ ap (λ (n : ℕ). Ok (with_words command n)) (sym (all ∙ count))) in
           let last = arguments_wait _ _ m none_kept _ left arguments (length arguments + left) refl first in
           (last.core, last.memory);
       kept = last_kept;

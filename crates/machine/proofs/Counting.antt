@@ -1,5 +1,7 @@
 -- What the totals come to, word by word: only the size word of a load and the last word of a fill count, only Start-Over takes back, only a Jump & Close
 -- compares, and none of this touches anything else in AM17xx. By cases over the commands, then over the phases, the tests of a unit and the words or units.
+use Rattle.opcodes.specs.declared.Refusal.{Refusal}
+use Rattle.std.specs.Prelude.{Some, Ok, Err}
 use Prim.Native.Nat.{ℕ, ◌-◌}
 use mathlib.Core.Bool.{Bool, true, false}
 use mathlib.Core.List.{List, [], ◌∷◌}
@@ -8,33 +10,34 @@ use mathlib.Core.Path.{◌≡◌, refl, sym, ap, ap₂, subst, ◌∙◌}
 use native.Mathlib.Omega.{arith}
 use lib.Dec.{eqb}
 use borrow.Author.Tests.{ne_eqb, eqb-true}
+use Rattle.std.specs.declared.result.Result.{Result}
+use Rattle.std.specs.declared.result.Result.TheVariants.{Ok}
 use Rattle.words.specs.rules.Bytes.{byte}
 use Rattle.words.specs.rules.Choice.{pick}
 use Rattle.words.proofs.Choice.{passed, of_choice}
 use Rattle.opcodes.specs.rules.Answers.{code_of}
-use Rattle.opcodes.specs.rules.Opcodes.{looked_up}
+use Rattle.opcodes.specs.rules.Opcodes.{looked_up, with_words}
 use Rattle.opcodes.specs.declared.Command.{Command}
 use Rattle.opcodes.specs.declared.Command.TheVariants as command
 use Rattle.opcodes.specs.declared.Dialect.{Dialect}
 use Rattle.opcodes.specs.declared.Dialect.TheVariants.{Am17xx, Dm648}
 use Rattle.opcodes.specs.declared.Event.{Event}
 use Rattle.opcodes.specs.declared.Event.TheVariants as event
-use Rattle.opcodes.specs.declared.Found.{Found}
-use Rattle.opcodes.specs.declared.Found.TheVariants.{Known, Retired, Unknown}
 use Rattle.opcodes.specs.declared.Mode.TheVariants.{Sent}
-use Rattle.opcodes.specs.declared.Refusal.{Refusal}
-use Rattle.opcodes.specs.declared.Refusal.TheVariants as refusal
+use Rattle.opcodes.specs.declared.Refusal.TheVariants as why
+use Rattle.opcodes.specs.rules.Refusals.{Verdict}
+use Rattle.opcodes.specs.rules.Refusals as refusal
 use Rattle.opcodes.proofs.Counts.{row_is, row-is}
+use Rattle.opcodes.specs.declared.Known.{Known}
+use Rattle.opcodes.proofs.Looked.{Looked, of_row, of_none, of_retired, looked}
 use Rattle.ledger.specs.claims.Agreement.{Zero, plus}
 use Rattle.ledger.specs.rules.Totals.{standing, at_opening, numbered_as, differs, counted, numbered, turned}
 use Rattle.ledger.specs.declared.Standing.{Standing}
 use Rattle.ledger.specs.declared.Totals.{Totals}
 use Rattle.ledger.proofs.Agreement.{stays_zero}
 use Rattle.ledger.proofs.Laws.{settled_now, turned_numbers, names_them, plus_none, plus_more, plus_one}
-use Rattle.commands.specs.rules.Commands.{done_if, load_judged, fill_judged, fill_done, setting_judged, setting_done, entry_judged, close_done}
+use Rattle.commands.specs.rules.Commands.{done_if, load_judged, fill_judged, fill_done, setting_judged, setting_done, entry_judged, close_done, Judged}
 use Rattle.commands.specs.declared.Done.{Done}
-use Rattle.commands.specs.declared.Judged.{Judged}
-use Rattle.commands.specs.declared.Judged.TheVariants.{Granted, Refused}
 use Rattle.commands.specs.declared.Wrote.{Wrote}
 use Rattle.commands.proofs.Judging.{granted_before, load_passes, fill_passes}
 use Rattle.machine.specs.claims.Counting.{WordsCount, size_of, kept_before, sizes_at, NoRetry, sizes_of, Entering}
@@ -106,11 +109,12 @@ pick_now true a b now sizes held failed e = held e
 pick_now false a b now sizes held failed e = failed
 
 -- a command that the table has at an opcode that is no Start-Over
-no_retry : {f : Found} (d : Dialect) (c : Command) (words : ℕ) → f ≡ Known c words → row_is Sent d c words ≡ true → f ≢ Known command.StartOver 0
+no_retry : {f : Result Known Refusal} (d : Dialect) (c : Command) (words : ℕ) → f ≡ Ok (with_words c words) → row_is Sent d c words ≡ true
+    → f ≢ Ok (with_words command.StartOver 0)
     → c ≡ command.StartOver → ⊥
 unfolding row_is
 no_retry d c words known row other same =
-    other (known ∙ ap₂ Known same (eqb-true words 0 (subst (λ (x : Command). row_is Sent d x words ≡ true) same row)))
+    other (known ∙ ap₂ (λ (x : Command) (n : ℕ). Ok (with_words x n)) same (eqb-true words 0 (subst (λ (x : Command). row_is Sent d x words ≡ true) same row)))
 
 -- no event, and a wait, are no entry
 no_event : {e : Event} {entry : ℕ} → e ≡ event.Nothing → e ≡ event.Enter entry → ⊥
@@ -125,8 +129,8 @@ zero_counted k size am zero = subst (λ (d : Dialect). Zero (numbered (counted d
 
 load_zero : (k : Core) (address size : ℕ) (judged : Judged) → k.dialect ≡ Am17xx → Zero k.tally.totals
     → Zero (load_begun k address size judged).core.tally.totals
-load_zero k address size (Granted place) am zero = zero_counted k size am zero
-load_zero k address size (Refused q) am zero = zero
+load_zero k address size (Ok place) am zero = zero_counted k size am zero
+load_zero k address size (Err q) am zero = zero
 
 -- a command that was judged and done leaves the totals that it was given, or was refused
 after_totals : (P : Totals → Type 0) (k : Core) (t : Totals) (done : Done) → P t → P k.tally.totals → P (after k t done).core.tally.totals
@@ -183,25 +187,25 @@ module _ (k : Core) (m : List ℕ) (dm : k.dialect ≡ Dm648) where
   toward_now c left kept word = pick_now (eqb left 0) _ _ now (size_of c kept word) (performed_now c kept word) (plus_none now)
 
 module _ (k : Core) (m : List ℕ) (word : ℕ) (dm : k.dialect ≡ Dm648) where
-  opcode_now : (f : Found) → looked_up word Sent k.dialect ≡ f → looked_up word Sent k.dialect ≢ Known command.StartOver 0
+  opcode_now : {f : Result Known Refusal} → Looked f → looked_up word Sent k.dialect ≡ f → looked_up word Sent k.dialect ≢ Ok (with_words command.StartOver 0)
       → (at_opcode k m word f).answer.refusal ≡ refusal.None → now_of (at_opcode k m word f) ≡ plus k.tally.totals.now []
-  opcode_now Unknown known other e = plus_none _
-  opcode_now Retired known other e = plus_none _
-  opcode_now (Known c words) known other e =
-      let row = row-is Sent k.dialect word c words known in
-      let o : WordOutcome = toward c words (begun c k) m none_kept 0 in
+  opcode_now of_none known other e = plus_none _
+  opcode_now of_retired known other e = plus_none _
+  opcode_now (of_row f) known other e =
+      let row = row-is Sent k.dialect word f.command f.words known in
+      let o : WordOutcome = toward f.command f.words (begun f.command k) m none_kept 0 in
       ap (λ (x : Core). x.tally.totals.now) (ack_core word o.answer)
-      ∙ toward_now (begun c k) m dm c words none_kept 0 (sym (ack_refusal word o.answer) ∙ e)
-      ∙ ap₂ plus (turned_now c k.tally.totals (no_retry k.dialect c words known row other)) (no_size k.dialect c words row)
+      ∙ toward_now (begun f.command k) m dm f.command f.words none_kept 0 (sym (ack_refusal word o.answer) ∙ e)
+      ∙ ap₂ plus (turned_now f.command k.tally.totals (no_retry k.dialect f.command f.words known row other)) (no_size k.dialect f.command f.words row)
 
-  phase_now : (p : Phase) → (p ≡ phase.Opcode → looked_up word Sent k.dialect ≢ Known command.StartOver 0)
+  phase_now : (p : Phase) → (p ≡ phase.Opcode → looked_up word Sent k.dialect ≢ Ok (with_words command.StartOver 0))
       → (in_phase p k m word).answer.refusal ≡ refusal.None → now_of (in_phase p k m word) ≡ plus k.tally.totals.now (sizes_at p word)
-  phase_now phase.Opcode other e = opcode_now (looked_up word Sent k.dialect) refl (other refl) e
+  phase_now phase.Opcode other e = opcode_now (looked word Sent k.dialect) refl (other refl) e
   phase_now (phase.Argument c left kept) other e = toward_now k m dm c (left - 1) kept word e
   phase_now (phase.Data end left) other e = plus_none _
   phase_now (phase.Echo n) other e = plus_none _
 
-  word_now : (k.stage.phase ≡ phase.Opcode → looked_up word Sent k.dialect ≢ Known command.StartOver 0)
+  word_now : (k.stage.phase ≡ phase.Opcode → looked_up word Sent k.dialect ≢ Ok (with_words command.StartOver 0))
       → (word_step k m word).answer.refusal ≡ refusal.None → now_of (word_step k m word) ≡ plus k.tally.totals.now (sizes_at k.stage.phase word)
   unfolding word_step
   word_now other e = phase_now k.stage.phase other e
@@ -218,7 +222,7 @@ words_now (word ∷ words) o dm n =
     ∙ plus_more (now_of o) (sizes_at k.stage.phase word) _
 
 -- what enters: a command that was granted, with that event
-refused_event : (k : Core) (t : Totals) (q : Refusal) (checksum : ℕ)
+refused_event : (k : Core) (t : Totals) (q : Verdict) (checksum : ℕ)
     → (after k t (record { refusal = q; event = event.Nothing; checksum = checksum })).event ≡ event.Nothing
 unfolding after
 refused_event k t q checksum = of_choice (λ (x : Taken). x.event ≡ event.Nothing) _ (λ h. refl) (λ h. refl)
@@ -226,8 +230,8 @@ refused_event k t q checksum = of_choice (λ (x : Taken). x.event ≡ event.Noth
 done_enters : (k : Core) (t : Totals) (judged : Judged) (checksum : ℕ) (told : Event) (fed entry : ℕ)
     → (after k t (done_if judged checksum told fed)).event ≡ event.Enter entry → GrantedAt judged × (told ≡ event.Enter entry)
 unfolding after pick
-done_enters k t (Granted place) checksum told fed entry e = (record { place = place; granted = refl }, e)
-done_enters k t (Refused q) checksum told fed entry e = absurd (no_event (refused_event k t q checksum) e)
+done_enters k t (Ok place) checksum told fed entry e = (record { place = place; granted = refl }, e)
+done_enters k t (Err q) checksum told fed entry e = absurd (no_event (refused_event k t (Some q) checksum) e)
 
 entered_event : (t : Taken) → (entered t).event ≡ t.event
 unfolding entered
@@ -235,8 +239,8 @@ entered_event t = of_choice (λ (x : Taken). x.event ≡ t.event) _ {b = t} (λ 
 
 -- that is a Jump & Close, and no other command
 load_silent : (k : Core) (address size : ℕ) (judged : Judged) → (load_begun k address size judged).event ≡ event.Nothing
-load_silent k address size (Granted place) = refl
-load_silent k address size (Refused q) = refl
+load_silent k address size (Ok place) = refl
+load_silent k address size (Err q) = refl
 
 closes : (c : Command) (k : Core) (m : List ℕ) (kept : Kept) (word entry : ℕ) → (performed c k m kept word).answer.event ≡ event.Enter entry
     → c ≡ command.JumpAndClose
@@ -272,7 +276,7 @@ close_named k m kept word entry e =
     let g = (done_enters k k.tally.totals (close_judged k address (standing kept.third word)) r (event.Enter address) r entry
     (sym (entered_event (after k k.tally.totals (close_done (close_judged k address (standing kept.third word)) r address))) ∙ e)).0 in
     let same =
-    (granted_before (differs k.dialect k.tally.totals named) refusal.Totals (entry_judged k.windows address) g.place g.granted).0 in
+    (granted_before (differs k.dialect k.tally.totals named) why.Totals (entry_judged k.windows address) g.place g.granted).0 in
     record {
       told = λ dm. sym (names_them k.tally.totals.now named (sym (ap (λ (d : Dialect). differs d k.tally.totals named) dm) ∙ same));
       reply = ap (λ (j : Judged). (entered (after k k.tally.totals (close_done j r address))).reply) g.granted;
@@ -298,19 +302,19 @@ unfolding row_is
 close_words Am17xx words row none = omega (arith, eqb-true words 1 row, eqb-true words 0 none)
 close_words Dm648 words row none = omega (arith, eqb-true words 3 row, eqb-true words 0 none)
 
-opcode_never : (k : Core) (m : List ℕ) (word entry : ℕ) (f : Found) → looked_up word Sent k.dialect ≡ f
+opcode_never : (k : Core) (m : List ℕ) (word entry : ℕ) {f : Result Known Refusal} → Looked f → looked_up word Sent k.dialect ≡ f
     → (at_opcode k m word f).answer.event ≡ event.Enter entry → ⊥
-opcode_never k m word entry Unknown known e = no_event refl e
-opcode_never k m word entry Retired known e = no_event refl e
-opcode_never k m word entry (Known c words) known e =
-    let o : WordOutcome = toward c words (begun c k) m none_kept 0 in
-    let named = toward_named c words (begun c k) m none_kept 0 entry (sym (ack_event word o.answer) ∙ e) in
-    close_words k.dialect words (subst (λ (x : Command). row_is Sent k.dialect x words ≡ true) named.0 (row-is Sent k.dialect word c words known))
+opcode_never k m word entry of_none known e = no_event refl e
+opcode_never k m word entry of_retired known e = no_event refl e
+opcode_never k m word entry (of_row f) known e =
+    let o : WordOutcome = toward f.command f.words (begun f.command k) m none_kept 0 in
+    let named = toward_named f.command f.words (begun f.command k) m none_kept 0 entry (sym (ack_event word o.answer) ∙ e) in
+    close_words k.dialect f.words (subst (λ (x : Command). row_is Sent k.dialect x f.words ≡ true) named.0 (row-is Sent k.dialect word f.command f.words known))
     named.1
 
 phase_named : (p : Phase) (k : Core) (m : List ℕ) (word entry : ℕ) → (in_phase p k m word).answer.event ≡ event.Enter entry
     → Named k (kept_before p) word (in_phase p k m word)
-phase_named phase.Opcode k m word entry e = absurd (opcode_never k m word entry (looked_up word Sent k.dialect) refl e)
+phase_named phase.Opcode k m word entry e = absurd (opcode_never k m word entry (looked word Sent k.dialect) refl e)
 phase_named (phase.Argument c left kept) k m word entry e = (toward_named c (left - 1) k m kept word entry e).2
 phase_named (phase.Data end left) k m word entry e = absurd (no_event refl e)
 phase_named (phase.Echo n) k m word entry e = absurd (no_event refl e)
@@ -341,17 +345,17 @@ toward_zero : (c : Command) (left : ℕ) (k : Core) (m : List ℕ) (kept : Kept)
 toward_zero c left k m kept word am zero =
     of_choice (λ (o : WordOutcome). Zero o.answer.core.tally.totals) (eqb left 0) (λ h. performed_zero c k m kept word am zero) (λ h. zero)
 
-opcode_zero : (k : Core) (m : List ℕ) (word : ℕ) (f : Found) → k.dialect ≡ Am17xx → Zero k.tally.totals
+opcode_zero : (k : Core) (m : List ℕ) (word : ℕ) {f : Result Known Refusal} → Looked f → k.dialect ≡ Am17xx → Zero k.tally.totals
     → Zero (at_opcode k m word f).answer.core.tally.totals
-opcode_zero k m word Unknown am zero = zero
-opcode_zero k m word Retired am zero = zero
-opcode_zero k m word (Known c words) am zero =
+opcode_zero k m word of_none am zero = zero
+opcode_zero k m word of_retired am zero = zero
+opcode_zero k m word (of_row f) am zero =
     subst Zero (sym (ap (λ (x : Core). x.tally.totals) (ack_core word _)))
-    (toward_zero c words (begun c k) m none_kept 0 am (stays_zero.turning k.tally.totals c zero))
+    (toward_zero f.command f.words (begun f.command k) m none_kept 0 am (stays_zero.turning k.tally.totals f.command zero))
 
 pub phase_zero : (p : Phase) (k : Core) (m : List ℕ) (word : ℕ) → k.dialect ≡ Am17xx → Zero k.tally.totals
     → Zero (in_phase p k m word).answer.core.tally.totals
-phase_zero phase.Opcode k m word am zero = opcode_zero k m word (looked_up word Sent k.dialect) am zero
+phase_zero phase.Opcode k m word am zero = opcode_zero k m word (looked word Sent k.dialect) am zero
 phase_zero (phase.Argument c left kept) k m word am zero = toward_zero c (left - 1) k m kept word am zero
 phase_zero (phase.Data end left) k m word am zero = zero
 phase_zero (phase.Echo n) k m word am zero = zero
@@ -417,8 +421,8 @@ module _ (k : Core) (a b by : Totals) where
   written_alike wrote v w last done = ap (writing wrote) (after_alike v w last done)
 
   load_alike : (address size : ℕ) (judged : Judged) → bare_taken (load_begun one address size judged) ≡ bare_taken (load_begun two address size judged)
-  load_alike address size (Granted place) = refl
-  load_alike address size (Refused q) = refl
+  load_alike address size (Ok place) = refl
+  load_alike address size (Err q) = refl
 
   module _ (m : List ℕ) (kept : Kept) (word : ℕ) where
     performed_alike : (c : Command) → bare (performed c one m kept word) ≡ bare (performed c two m kept word)
@@ -440,22 +444,23 @@ module _ (k : Core) (a b by : Totals) where
     toward_alike : (c : Command) (left : ℕ) → bare (toward c left one m kept word) ≡ bare (toward c left two m kept word)
     toward_alike c left = same_choice (eqb left 0) _ _ _ _ (performed_alike c) refl
 
-opcode_alike : (k : Core) (a b by : Totals) (m : List ℕ) (word : ℕ) (f : Found)
+opcode_alike : (k : Core) (a b by : Totals) (m : List ℕ) (word : ℕ) {f : Result Known Refusal} → Looked f
     → bare (at_opcode (having Am17xx k (numbered_as a by)) m word f) ≡ bare (at_opcode (having Am17xx k (numbered_as b by)) m word f)
-opcode_alike k a b by m word Unknown = refl
-opcode_alike k a b by m word Retired = refl
-opcode_alike k a b by m word (Known c words) =
-    let Reached : Totals → WordOutcome = λ t. toward c words (having Am17xx (begun c k) t) m none_kept 0 in
-    opening_bare word (Reached (turned c (numbered_as a by)))
+opcode_alike k a b by m word of_none = refl
+opcode_alike k a b by m word of_retired = refl
+opcode_alike k a b by m word (of_row f) =
+    let Reached : Totals → WordOutcome = λ t. toward f.command f.words (having Am17xx (begun f.command k) t) m none_kept 0 in
+    opening_bare word (Reached (turned f.command (numbered_as a by)))
     ∙ ap (opening word)
-    (ap (λ (t : Totals). bare (Reached t)) (turned_numbers c a by)
-    ∙ toward_alike (begun c k) (turned c (numbered_as a by)) (turned c (numbered_as b by)) (turned c by) m none_kept 0 c words
-    ∙ sym (ap (λ (t : Totals). bare (Reached t)) (turned_numbers c b by)))
-    ∙ sym (opening_bare word (Reached (turned c (numbered_as b by))))
+    (ap (λ (t : Totals). bare (Reached t)) (turned_numbers f.command a by)
+    ∙ toward_alike (begun f.command k) (turned f.command (numbered_as a by)) (turned f.command (numbered_as b by)) (turned f.command by) m none_kept 0
+    f.command f.words
+    ∙ sym (ap (λ (t : Totals). bare (Reached t)) (turned_numbers f.command b by)))
+    ∙ sym (opening_bare word (Reached (turned f.command (numbered_as b by))))
 
 phase_alike : (p : Phase) (k : Core) (a b by : Totals) (m : List ℕ) (word : ℕ)
     → bare (in_phase p (having Am17xx k (numbered_as a by)) m word) ≡ bare (in_phase p (having Am17xx k (numbered_as b by)) m word)
-phase_alike phase.Opcode k a b by m word = opcode_alike k a b by m word (looked_up word Sent Am17xx)
+phase_alike phase.Opcode k a b by m word = opcode_alike k a b by m word (looked word Sent Am17xx)
 phase_alike (phase.Argument c left kept) k a b by m word = toward_alike k a b by m kept word c (left - 1)
 phase_alike (phase.Data end left) k a b by m word = refl
 phase_alike (phase.Echo n) k a b by m word = refl

@@ -1,4 +1,5 @@
 -- What every word does, whatever awaits it: by cases over the commands, once for all of it, then over the phases.
+use Rattle.std.specs.Prelude.{Some, Ok, Err}
 use Prim.Native.Nat.{ℕ, ◌-◌, ◌%◌, ◌≤◌}
 use mathlib.Core.Bool.{Bool, true, false, true≢false}
 use mathlib.Core.List.{List}
@@ -7,24 +8,25 @@ use mathlib.Core.Path.{◌≡◌, refl, sym, subst, ◌∙◌}
 use native.Mathlib.Omega.{arith}
 use lib.ListN.{length}
 use borrow.Author.Tests.{eqb-true, eqb-false}
+use Rattle.std.specs.declared.result.Result.{Result}
 use Rattle.words.proofs.Choice.{of_choice}
-use Rattle.opcodes.specs.rules.Answers.{code_of}
+use Rattle.opcodes.specs.rules.Answers.{code_of, accepted}
 use Rattle.opcodes.specs.rules.Opcodes.{looked_up}
 use Rattle.opcodes.specs.declared.Command.{Command}
 use Rattle.opcodes.specs.declared.Command.TheVariants as command
 use Rattle.opcodes.specs.declared.Dialect.{Dialect}
 use Rattle.opcodes.specs.declared.Dialect.TheVariants.{Am17xx, Dm648}
 use Rattle.opcodes.specs.declared.Event.{Event}
-use Rattle.opcodes.specs.declared.Found.{Found}
-use Rattle.opcodes.specs.declared.Found.TheVariants.{Known, Retired, Unknown}
 use Rattle.opcodes.specs.declared.Mode.TheVariants.{Sent}
+use Rattle.opcodes.specs.rules.Refusals.{Verdict}
+use Rattle.opcodes.specs.rules.Refusals as refusal
 use Rattle.opcodes.specs.declared.Refusal.{Refusal}
-use Rattle.opcodes.specs.declared.Refusal.TheVariants as refusal
+use Rattle.opcodes.specs.declared.Known.{Known}
+use Rattle.opcodes.proofs.Looked.{Looked, of_row, of_none, of_retired, looked}
 use Rattle.ledger.specs.declared.Totals.{Totals}
 use Rattle.commands.specs.rules.Commands.{done_if, memory_if, load_judged, fill_judged, fill_done, fill_memory, setting_judged, setting_done, setting_memory}
+use Rattle.commands.specs.rules.Commands.{Judged}
 use Rattle.commands.specs.declared.Done.{Done}
-use Rattle.commands.specs.declared.Judged.{Judged}
-use Rattle.commands.specs.declared.Judged.TheVariants.{Granted, Refused}
 use Rattle.commands.specs.declared.Wrote.{Wrote}
 use Rattle.machine.specs.claims.Every.{EveryWord}
 use Rattle.machine_answers.specs.rules.Answers.{WordOutcome, changed, stop, refused, writing, ◌leaving◌, after, entered}
@@ -80,7 +82,7 @@ accepting : {k : Core} {m left : List ℕ} {reply : Reply} {event : Event} {ende
     → Keeps k m (record { refusal = refusal.None; reply = reply; event = event; core = changed k ended on k.begun tally next; wrote = wrote } leaving left)
 accepting said over = record { windows = refl; dialect = refl; begun = refl; memory = over; said = said; stopped = λ h. absurd (h refl) }
 
-refusing : (k : Core) (m : List ℕ) (q : Refusal) {wrote : Wrote} → Keeps k m (writing wrote (refused k q) leaving m)
+refusing : (k : Core) (m : List ℕ) (q : Verdict) {wrote : Wrote} → Keeps k m (writing wrote (refused k q) leaving m)
 refusing k m q =
     record {
       windows = refl;
@@ -92,8 +94,8 @@ refusing k m q =
     }
 
 load_keeps : (k : Core) (m : List ℕ) (address size : ℕ) (judged : Judged) → Keeps k m (load_begun k address size judged leaving m)
-load_keeps k m address size (Granted place) = accepting none_said untouched
-load_keeps k m address size (Refused q) = refusing k m q
+load_keeps k m address size (Ok place) = accepting none_said untouched
+load_keeps k m address size (Err q) = refusing k m (Some q)
 
 done_keeps : (k : Core) (m left : List ℕ) (totals : Totals) (done : Done) {wrote : Wrote} → Overwritten m left → (code_of done.refusal ≢ 0 → left ≡ m)
     → Keeps k m (writing wrote (after k totals done) leaving left)
@@ -105,8 +107,8 @@ done_keeps k m left totals done {wrote} over same =
 -- a command that is refused leaves the memory as it was
 kept_if : (judged : Judged) (checksum : ℕ) (told : Event) (fed : ℕ) (writing : ℕ → List ℕ) (m : List ℕ)
     → code_of (done_if judged checksum told fed).refusal ≢ 0 → memory_if judged writing m ≡ m
-kept_if (Granted place) checksum told fed writing m h = absurd (h refl)
-kept_if (Refused q) checksum told fed writing m h = refl
+kept_if (Ok place) checksum told fed writing m h = absurd (h refl)
+kept_if (Err q) checksum told fed writing m h = refl
 
 fill_keeps : (k : Core) (m : List ℕ) (kept : Kept) (word : ℕ) → Keeps k m (performed command.Fill k m kept word)
 unfolding fill_done fill_memory
@@ -208,15 +210,15 @@ another_word : (k : Core) (m : List ℕ) (o : WordOutcome) {p : Phase} → k.sta
 another_word k m o here differs keeps =
     from_keeps k k m o refl refl (λ e. e) (λ idle. let z = differs (sym here ∙ idle) in absurd (omega arith)) keeps
 
-opcode_word : (k : Core) (m : List ℕ) (word : ℕ) (found : Found) → EveryWord k m (at_opcode k m word found)
-opcode_word k m word Unknown = from_keeps k k m _ refl refl (λ e. e) (λ idle e. refl) (refusing k m refusal.Opcode)
-opcode_word k m word Retired = from_keeps k k m _ refl refl (λ e. e) (λ idle e. refl) (refusing k m refusal.Retired)
-opcode_word k m word (Known c words) =
-    let keeps = opening_keeps word (begun c k) m _ (toward_keeps c words (begun c k) m none_kept 0) in
-    from_keeps k (begun c k) m _ refl refl (λ e. refl) (λ idle e. absurd (true≢false (sym keeps.begun ∙ e))) keeps
+opcode_word : (k : Core) (m : List ℕ) (word : ℕ) {found : Result Known Refusal} → Looked found → EveryWord k m (at_opcode k m word found)
+opcode_word k m word of_none = from_keeps k k m _ refl refl (λ e. e) (λ idle e. refl) (refusing k m refusal.Opcode)
+opcode_word k m word of_retired = from_keeps k k m _ refl refl (λ e. e) (λ idle e. refl) (refusing k m refusal.Retired)
+opcode_word k m word (of_row f) =
+    let keeps = opening_keeps word (begun f.command k) m _ (toward_keeps f.command f.words (begun f.command k) m none_kept 0) in
+    from_keeps k (begun f.command k) m _ refl refl (λ e. refl) (λ idle e. absurd (true≢false (sym keeps.begun ∙ e))) keeps
 
 phase_word : (p : Phase) (k : Core) (m : List ℕ) (word : ℕ) → k.stage.phase ≡ p → EveryWord k m (in_phase p k m word)
-phase_word phase.Opcode k m word here = opcode_word k m word (looked_up word Sent k.dialect)
+phase_word phase.Opcode k m word here = opcode_word k m word (looked word Sent k.dialect)
 phase_word (phase.Argument c left kept) k m word here = another_word k m _ here (λ e. cc) (toward_keeps c (left - 1) k m kept word)
 phase_word (phase.Data end left) k m word here =
     another_word k m _ here (λ e. cc) (accepting none_said (data_over m (end - left) word left))

@@ -1,5 +1,6 @@
 -- A load sent in pieces does what the whole load does in flash mode, word by word: a data word writes and feeds the next bytes of the load, and what the later
 -- words write and feed goes on from there.
+use Rattle.std.specs.Prelude.{Ok}
 use Prim.Native.Nat.{ℕ, zero, suc, ◌+◌, ◌-◌, ◌*◌, ◌/◌, ◌%◌, ◌<◌, min}
 use mathlib.Core.Bool.{Bool, true, false}
 use mathlib.Core.List.{List, [], ◌∷◌, ◌++◌}
@@ -16,12 +17,10 @@ use Rattle.words.proofs.Choice.{chosen, passed}
 use Rattle.words.proofs.WrittenBits.{bit_byte, bit_number}
 use Rattle.checksum.specs.rules.Checksum.{fed_bit, fed, fed_words}
 use Rattle.opcodes.specs.declared.Command.TheVariants as command
-use Rattle.commands.specs.rules.Commands.{load_judged}
+use Rattle.commands.specs.rules.Commands.{load_judged, Judged}
 use Rattle.stores.specs.rules.Stores.{loaded, words_fed, load_fed}
 use Rattle.stores.proofs.Loading.{loaded_append}
 use Rattle.commands.specs.rules.Wrote.{none_wrote, bytes_wrote}
-use Rattle.commands.specs.declared.Judged.{Judged}
-use Rattle.commands.specs.declared.Judged.TheVariants.{Granted}
 use Rattle.commands.specs.declared.Wrote.{Wrote}
 use Rattle.machine_loads.proofs.Laws.{data_byte, data_length}
 use Rattle.machine_answers.specs.rules.Answers.{WordOutcome, tallied, await, with_checksum, quiet, writing, ◌leaving◌}
@@ -75,7 +74,7 @@ data_fed r n w =
 -- a data word where some are left
 pub data_step : (k : Core) (m : List ℕ) (p n w : ℕ) → 0 < n → k.stage.phase ≡ awaited (p + n) n
     → word_step k m w
-    ≡ writing (bytes_wrote (Granted p) (min n 4) (k.tally.totals.next - 1))
+    ≡ writing (bytes_wrote (Ok p) (min n 4) (k.tally.totals.next - 1))
     (quiet (await k (with_checksum k (pick k.on (fed k.tally.checksum w (8 * min n 4)) k.tally.checksum)) (awaited (p + n) (n - 4))))
     leaving loaded m p (data_bytes w n)
 unfolding word_step awaited
@@ -131,7 +130,7 @@ pieces (w ∷ ws) k m p n at whole =
     let end : p + n ≡ p + length (data_bytes w n) + (n - 4) = omega (arith, data_length w n) in
     let next = await k (with_checksum k (pick k.on (fed k.tally.checksum w (8 * min n 4)) k.tally.checksum)) (awaited (p + n) (n - 4)) in
     ap (λ (o : WordOutcome). unwritten (after_words o ws)) (data_step k m p n w more at)
-    ∙ same_words (bytes_wrote (Granted p) (min n 4) (k.tally.totals.next - 1)) (quiet next) (loaded m p (data_bytes w n)) ws
+    ∙ same_words (bytes_wrote (Ok p) (min n 4) (k.tally.totals.next - 1)) (quiet next) (loaded m p (data_bytes w n)) ws
     ∙ pieces ws next (loaded m p (data_bytes w n)) (p + length (data_bytes w n)) (n - 4) (ap (λ (e : ℕ). awaited e (n - 4)) end) (omega arith)
     ∙ ap₂ (λ (r : ℕ) (left : List ℕ). quiet (await k (with_checksum k r) phase.Opcode) leaving left) (fed_next k.on k.tally.checksum n w ws more)
     (loaded_append m p (data_bytes w n) (take (n - 4) (words_bytes ws)) ∙ ap (loaded m p) (all_bytes n w ws))
@@ -155,7 +154,7 @@ load-fed false r address n bytes e = refl
 
 -- a load that is granted at its size word, with its data: to checksum, totals and memory it does what the whole load does
 pub load_in_pieces : (k : Core) (m : List ℕ) (kept : Kept) (size place : ℕ) (ws : List ℕ)
-    → out_of_numbers k (overflowing k size (load_judged k.windows kept.third size)) ≡ Granted place → length ws ≡ (size + 3) / 4
+    → out_of_numbers k (overflowing k size (load_judged k.windows kept.third size)) ≡ Ok place → length ws ≡ (size + 3) / 4
     → unwritten (after_words (performed command.Load k m kept size) ws)
     ≡ quiet
     (await k (tallied (pick k.on (load_fed k.tally.checksum kept.third (take size (words_bytes ws))) k.tally.checksum) (counted_on k size))

@@ -1,4 +1,5 @@
 -- Commands on memory: it keeps its length and stays bytes, since a command does nothing but put bytes into it.
+use Rattle.std.specs.Prelude.{Option, Some, None, Ok, Err}
 use Prim.Native.Nat.{ℕ, zero, suc, ◌+◌, ◌<◌}
 use mathlib.Core.List.{List, [], ◌∷◌}
 use mathlib.Core.Path.{◌≡◌, refl}
@@ -8,14 +9,10 @@ use lib.ListN.{length, set, take}
 use Rattle.words.specs.rules.Bytes.{words_bytes, byte, put, size_of, field_written}
 use Rattle.words.proofs.Choice.{of_choice}
 use Rattle.words.proofs.Puts.{length_put}
-use Rattle.commands.specs.rules.Commands.{memory_if, unit_of, type_filled, fill_memory, shape_of, shape_set, setting_memory}
+use Rattle.words.specs.declared.Unit.{Unit as UnitOf}
+use Rattle.words.specs.declared.Unit.{Unit as UnitOf}
+use Rattle.commands.specs.rules.Commands.{memory_if, unit_of, type_filled, fill_memory, shape_of, shape_set, setting_memory, Judged, Shape}
 use Rattle.stores.specs.rules.Stores.{loaded, filled}
-use Rattle.commands.specs.declared.Judged.{Judged}
-use Rattle.commands.specs.declared.Judged.TheVariants.{Granted, Refused}
-use Rattle.commands.specs.declared.Shape.{Shape}
-use Rattle.commands.specs.declared.Shape.TheVariants.{Bits, Wrong}
-use Rattle.commands.specs.declared.UnitType.{UnitType}
-use Rattle.commands.specs.declared.UnitType.TheVariants.{Of, Other}
 use Rattle.words.specs.rules.Bytes.{words_bytes, AreBytes}
 use Rattle.machine_loads.specs.rules.Loads.{data_bytes}
 
@@ -51,21 +48,21 @@ pub loaded_over : (m : List ℕ) (place : ℕ) (bs : List ℕ) → AreBytes bs �
 unfolding loaded
 loaded_over m place bs small = put_over m place (length bs) _ small
 
-filled_over : (m : List ℕ) (place size : ℕ) (kind : UnitType) (pattern : ℕ) → Overwritten m (type_filled m place size kind pattern)
+filled_over : (m : List ℕ) (place size : ℕ) (kind : Option UnitOf) (pattern : ℕ) → Overwritten m (type_filled m place size kind pattern)
 unfolding filled
-filled_over m place size Other pattern = untouched
-filled_over m place size (Of unit) pattern = put_over m place size _ (λ i. byte_small pattern _)
+filled_over m place size None pattern = untouched
+filled_over m place size (Some unit) pattern = put_over m place size _ (λ i. byte_small pattern _)
 
 set_shape_over : (m : List ℕ) (place : ℕ) (shape : Shape) (value : ℕ) → Overwritten m (shape_set m place shape value)
 unfolding field_written
-set_shape_over m place Wrong value = untouched
-set_shape_over m place (Bits unit start width field) value =
-    of_choice (Overwritten m) _ (λ e. put_over m place (size_of unit) _ (λ i. byte_small _ i)) (λ e. untouched)
+set_shape_over m place None value = untouched
+set_shape_over m place (Some bits) value =
+    of_choice (Overwritten m) _ (λ e. put_over m place (size_of bits.unit) _ (λ i. byte_small _ i)) (λ e. untouched)
 
 -- so of a command, granted or refused
 pub if_over : (m : List ℕ) (judged : Judged) (writing : ℕ → List ℕ) → ((place : ℕ) → Overwritten m (writing place)) → Overwritten m (memory_if judged writing m)
-if_over m (Granted place) writing over = over place
-if_over m (Refused q) writing over = untouched
+if_over m (Ok place) writing over = over place
+if_over m (Err q) writing over = untouched
 
 pub fill_over : (judged : Judged) (m : List ℕ) (size kind pattern : ℕ) → Overwritten m (fill_memory judged m size kind pattern)
 unfolding fill_memory

@@ -1,5 +1,6 @@
 -- What words tell that they wrote. The data words of a load tell its bits: each tells the next of them, and two ranges that adjoin are one. Any word tells by
 -- its command's number: by cases over the commands, then over the phases.
+use Rattle.std.specs.Prelude.{Some, None, Ok, Err}
 use Prim.Native.Nat.{ℕ, ◌+◌, ◌-◌, ◌*◌, ◌/◌, ◌<◌, min}
 use mathlib.Core.Bool.{Bool, false, ◌||◌}
 use mathlib.Core.List.{List, [], ◌∷◌}
@@ -9,34 +10,32 @@ use native.Mathlib.Omega.{arith}
 use lib.Dec.{eqb}
 use lib.ListN.{length}
 use borrow.Author.Tests.{eqb-false}
+use Rattle.std.specs.declared.result.Result.{Result}
 use Rattle.words.specs.rules.Bits.{within}
 use Rattle.words.specs.rules.Choice.{pick}
 use Rattle.words.proofs.Choice.{of_choice}
 use Rattle.words.proofs.Ranges.{inside, below, above, by_range}
 use Rattle.checksum.specs.rules.Checksum.{fed}
 use Rattle.opcodes.specs.rules.Answers.{code_of}
-use Rattle.opcodes.specs.rules.Opcodes.{looked_up}
 use Rattle.opcodes.specs.declared.Command.{Command}
 use Rattle.opcodes.specs.declared.Command.TheVariants as command
 use Rattle.opcodes.specs.declared.Event.{Event}
-use Rattle.opcodes.specs.declared.Found.{Found}
-use Rattle.opcodes.specs.declared.Found.TheVariants.{Known, Retired, Unknown}
 use Rattle.opcodes.specs.declared.Mode.TheVariants.{Sent}
+use Rattle.opcodes.specs.declared.Refusal.TheVariants as why
+use Rattle.opcodes.specs.rules.Refusals.{Verdict}
+use Rattle.opcodes.specs.rules.Refusals as refusal
 use Rattle.opcodes.specs.declared.Refusal.{Refusal}
-use Rattle.opcodes.specs.declared.Refusal.TheVariants as refusal
+use Rattle.opcodes.specs.declared.Known.{Known}
+use Rattle.opcodes.proofs.Looked.{Looked, of_row, of_none, of_retired, looked}
 use Rattle.ledger.specs.claims.Agreement.{HasNumbers}
 use Rattle.ledger.specs.rules.Totals.{counted, first_spent, is_spent, following, numbered, turned}
 use Rattle.ledger.specs.declared.Totals.{Totals}
 use Rattle.ledger.proofs.Agreement.{numbers_stay}
 use Rattle.ledger.proofs.Laws.{numbers_on}
-use Rattle.commands.specs.rules.Commands.{done_if, load_judged, fill_judged, fill_done, shape_of, setting_judged, setting_done}
+use Rattle.commands.specs.rules.Commands.{done_if, load_judged, fill_judged, fill_done, shape_of, setting_judged, setting_done, Judged, Shape}
 use Rattle.stores.specs.rules.Stores.{loaded}
 use Rattle.commands.specs.rules.Wrote.{none_wrote, bytes_wrote, shape_wrote, setting_wrote}
 use Rattle.commands.specs.declared.Done.{Done}
-use Rattle.commands.specs.declared.Judged.{Judged}
-use Rattle.commands.specs.declared.Judged.TheVariants.{Granted, Refused}
-use Rattle.commands.specs.declared.Shape.{Shape}
-use Rattle.commands.specs.declared.Shape.TheVariants.{Bits, Wrong}
 use Rattle.commands.specs.declared.Wrote.{Wrote}
 use Rattle.commands.proofs.Judging.{granted_before}
 use Rattle.machine_answers.specs.rules.Answers.{WordOutcome, await, with_checksum, stop, refused, writing, ◌leaving◌, after, entered}
@@ -75,7 +74,7 @@ next_core k place size w =
     await k (with_checksum k (pick k.on (fed k.tally.checksum w (8 * min size 4)) k.tally.checksum)) (awaited (place + size) (size - 4))
 
 bits : (ws : List ℕ) (k : Core) (m : List ℕ) (place size : ℕ) → k.stage.phase ≡ awaited (place + size) size → length ws ≡ (size + 3) / 4
-    → (p : ℕ) → some_tell (told_by k m ws) p ≡ tells (bytes_wrote (Granted place) size (k.tally.totals.next - 1)) p
+    → (p : ℕ) → some_tell (told_by k m ws) p ≡ tells (bytes_wrote (Ok place) size (k.tally.totals.next - 1)) p
 unfolding some_tell told_by
 bits [] k m place size at whole p =
     let none : size ≡ 0 = omega arith in
@@ -122,58 +121,58 @@ unfolding echoing
 echo_took n next = of_choice (λ (p : Phase). TookOne p next) (eqb n 0) (λ h. tt) (λ h. tt)
 
 -- a command that tells nothing
-silent_tells : {k next : Core} {m : List ℕ} {q : Refusal} {reply : Reply} {event : Event} → (KeepsNumbers k → KeepsNumbers next)
+silent_tells : {k next : Core} {m : List ℕ} {q : Verdict} {reply : Reply} {event : Event} → (KeepsNumbers k → KeepsNumbers next)
     → WordTells k (record { refusal = q; reply = reply; event = event; core = next; wrote = none_wrote } leaving m)
 silent_tells on = record { refused = λ h. refl; number = λ n some. absurd (some refl); goes_on = on }
 
-refused_tells : (k : Core) (m : List ℕ) (q : Refusal) → WordTells k (refused k q leaving m)
+refused_tells : (k : Core) (m : List ℕ) (q : Verdict) → WordTells k (refused k q leaving m)
 refused_tells k m q = silent_tells (λ n. record { totals = n.totals; load = n.load })
 
 -- the number that is taken where a section, or a setting, is granted
 taken_next : (t u : Totals) → u.next ≡ t.next → 0 < t.next → is_spent t ≡ false → t.next + 1 ≡ (numbered u).next
 taken_next t u same some left = sym (ap following same ∙ numbers_on.one_more t (λ e. omega (arith, some, e)) left)
 
-section_next : (k : Core) (size : ℕ) (judged : Judged) (place : ℕ) → KeepsNumbers k → out_of_numbers k (overflowing k size judged) ≡ Granted place
+section_next : (k : Core) (size : ℕ) (judged : Judged) (place : ℕ) → KeepsNumbers k → out_of_numbers k (overflowing k size judged) ≡ Ok place
     → k.tally.totals.next + 1 ≡ (counted_on k size).next
 section_next k size judged place n granted =
     taken_next k.tally.totals (counted k.dialect k.tally.totals size) (counted_next k.dialect k.tally.totals size) n.totals.0.some
     (section_counts k size judged place granted).unspent
 
-setting_next : (k : Core) (judged : Judged) (place : ℕ) → KeepsNumbers k → out_of_numbers k judged ≡ Granted place
+setting_next : (k : Core) (judged : Judged) (place : ℕ) → KeepsNumbers k → out_of_numbers k judged ≡ Ok place
     → k.tally.totals.next + 1 ≡ (numbered k.tally.totals).next
 setting_next k judged place n granted =
     taken_next k.tally.totals k.tally.totals refl n.totals.0.some
-    (granted_before (is_spent k.tally.totals) refusal.Number judged place granted).0
+    (granted_before (is_spent k.tally.totals) why.Number judged place granted).0
 
 counted-on : (k : Core) (size : ℕ) → KeepsNumbers k → HasNumbers (counted_on k size)
 counted-on k size n = numbers_stay.numbering (counted k.dialect k.tally.totals size)
     (numbers_stay.counting k.dialect k.tally.totals size n.totals)
 
 -- what is told of a judgement: nothing where it is refused, else by the number
-bytes_by : (judged : Judged) (size number : ℕ) (t : Totals) → 0 < number → ((place : ℕ) → judged ≡ Granted place → number + 1 ≡ t.next)
+bytes_by : (judged : Judged) (size number : ℕ) (t : Totals) → 0 < number → ((place : ℕ) → judged ≡ Ok place → number + 1 ≡ t.next)
     → (bytes_wrote judged size number).count ≢ 0 → ByLast (bytes_wrote judged size number) t
-bytes_by (Granted place) size number t some taken written = record { some = some; last = taken place refl }
-bytes_by (Refused q) size number t some taken written = absurd (written refl)
+bytes_by (Ok place) size number t some taken written = record { some = some; last = taken place refl }
+bytes_by (Err q) size number t some taken written = absurd (written refl)
 
 shape_by : (place : ℕ) (shape : Shape) (number : ℕ) (t : Totals) → 0 < number → number + 1 ≡ t.next → (shape_wrote place shape number).count ≢ 0
     → ByLast (shape_wrote place shape number) t
-shape_by place Wrong number t some taken written = absurd (written refl)
-shape_by place (Bits unit start width field) number t some taken written = record { some = some; last = taken }
+shape_by place None number t some taken written = absurd (written refl)
+shape_by place (Some bits) number t some taken written = record { some = some; last = taken }
 
-setting_by : (judged : Judged) (word number : ℕ) (t : Totals) → 0 < number → ((place : ℕ) → judged ≡ Granted place → number + 1 ≡ t.next)
+setting_by : (judged : Judged) (word number : ℕ) (t : Totals) → 0 < number → ((place : ℕ) → judged ≡ Ok place → number + 1 ≡ t.next)
     → (setting_wrote judged word number).count ≢ 0 → ByLast (setting_wrote judged word number) t
-setting_by (Granted place) word number t some taken written = shape_by place (shape_of word) number t some (taken place refl) written
-setting_by (Refused q) word number t some taken written = absurd (written refl)
+setting_by (Ok place) word number t some taken written = shape_by place (shape_of word) number t some (taken place refl) written
+setting_by (Err q) word number t some taken written = absurd (written refl)
 
 bytes_none : (judged : Judged) (checksum : ℕ) (told : Event) (fed size number : ℕ) → code_of (done_if judged checksum told fed).refusal ≢ 0
     → bytes_wrote judged size number ≡ none_wrote
-bytes_none (Granted place) checksum told fed size number h = absurd (h refl)
-bytes_none (Refused q) checksum told fed size number h = refl
+bytes_none (Ok place) checksum told fed size number h = absurd (h refl)
+bytes_none (Err q) checksum told fed size number h = refl
 
 setting_none : (judged : Judged) (checksum : ℕ) (told : Event) (fed word number : ℕ) → code_of (done_if judged checksum told fed).refusal ≢ 0
     → setting_wrote judged word number ≡ none_wrote
-setting_none (Granted place) checksum told fed word number h = absurd (h refl)
-setting_none (Refused q) checksum told fed word number h = refl
+setting_none (Ok place) checksum told fed word number h = absurd (h refl)
+setting_none (Err q) checksum told fed word number h = refl
 
 -- a command that was judged and done
 done_tells : (k : Core) (m : List ℕ) (t : Totals) (done : Done) (wrote : Wrote) → (KeepsNumbers k → HasNumbers t)
@@ -192,16 +191,16 @@ done_tells k m t done wrote on by none =
     })
 
 load_tells : (k : Core) (m : List ℕ) (address size : ℕ) (judged : Judged)
-    → ((place : ℕ) → KeepsNumbers k → judged ≡ Granted place → k.tally.totals.next + 1 ≡ (counted_on k size).next)
+    → ((place : ℕ) → KeepsNumbers k → judged ≡ Ok place → k.tally.totals.next + 1 ≡ (counted_on k size).next)
     → WordTells k (load_begun k address size judged leaving m)
-load_tells k m address size (Granted place) taken =
+load_tells k m address size (Ok place) taken =
     silent_tells
     (λ n. record {
       totals = counted-on k size n;
       load =
           awaited_took (place + size) size (counted_on k size).next (omega (arith, n.totals.0.some, taken place n refl));
     })
-load_tells k m address size (Refused q) taken = refused_tells k m q
+load_tells k m address size (Err q) taken = refused_tells k m (Some q)
 
 -- a command that was judged and wrote nothing
 closed_tells : (k : Core) (m : List ℕ) (done : Done) → WordTells k (after k k.tally.totals done leaving m)
@@ -269,15 +268,16 @@ begun_numbers c k here n =
       load = subst (λ (p : Phase). TookOne p (turned c k.tally.totals).next) (sym here) tt;
     }
 
-opcode_tells : (k : Core) (m : List ℕ) (word : ℕ) (found : Found) → k.stage.phase ≡ phase.Opcode → WordTells k (at_opcode k m word found)
-opcode_tells k m word Unknown here = refused_tells k m refusal.Opcode
-opcode_tells k m word Retired here = refused_tells k m refusal.Retired
-opcode_tells k m word (Known c words) here =
-    let told = opening_tells word (begun c k) _ (toward_tells c words (begun c k) m none_kept 0) in
+opcode_tells : (k : Core) (m : List ℕ) (word : ℕ) {found : Result Known Refusal} → Looked found → k.stage.phase ≡ phase.Opcode
+    → WordTells k (at_opcode k m word found)
+opcode_tells k m word of_none here = refused_tells k m refusal.Opcode
+opcode_tells k m word of_retired here = refused_tells k m refusal.Retired
+opcode_tells k m word (of_row f) here =
+    let told = opening_tells word (begun f.command k) _ (toward_tells f.command f.words (begun f.command k) m none_kept 0) in
     record {
       refused = told.refused;
-      number = λ n. told.number (begun_numbers c k here n);
-      goes_on = λ n. told.goes_on (begun_numbers c k here n);
+      number = λ n. told.number (begun_numbers f.command k here n);
+      goes_on = λ n. told.goes_on (begun_numbers f.command k here n);
     }
 
 -- the data of a load
@@ -293,7 +293,7 @@ data_tells end left k m word here =
     took n = subst (λ (p : Phase). TookOne p k.tally.totals.next) here n.load
 
 phase_tells : (p : Phase) (k : Core) (m : List ℕ) (word : ℕ) → k.stage.phase ≡ p → WordTells k (in_phase p k m word)
-phase_tells phase.Opcode k m word here = opcode_tells k m word (looked_up word Sent k.dialect) here
+phase_tells phase.Opcode k m word here = opcode_tells k m word (looked word Sent k.dialect) here
 phase_tells (phase.Argument c left kept) k m word here = toward_tells c (left - 1) k m kept word
 phase_tells (phase.Data end left) k m word here = data_tells end left k m word here
 phase_tells (phase.Echo n) k m word here = silent_tells (λ on. record { totals = on.totals; load = echo_took (n - 1) k.tally.totals.next })

@@ -50,8 +50,7 @@ fn reply_before(word: u32, reply: Reply) -> Reply
 pub fn acknowledge(taken: Taken, opcode: u32) -> Taken
     ensures { result ≡ acknowledging opcode taken }
 {
-    let refusal = taken.refusal;
-    if refusal.code() == 0 {
+    if taken.refusal.is_none() {
         let reply = reply_before(machine_answers::acknowledgement(opcode), taken.reply);
         let mut next = taken;
         next.reply = reply;

@@ -3,7 +3,7 @@
 
 pub mod counts;
 
-ghost use Rattle.std.specs.Prelude.{◌≡◌};
+ghost use Rattle.std.specs.Prelude.{◌≡◌, Some};
 ghost use Rattle.machine_answers.specs.rules.Answers.{tallied, await, stop, refused, said, writing, after, entered};
 ghost use Rattle.machine_answers.specs.rules.Replies.{silence, one_word, acknowledged, farewell};
 
@@ -65,7 +65,7 @@ pub struct Reply {
 // The answer to a whole word; `wrote` is the bits of memory that were written.
 #[derive(Clone, Copy)]
 pub struct Taken {
-    pub refusal: Refusal,
+    pub refusal: Option<Refusal>,
     pub reply: Reply,
     pub event: Event,
     pub core: Core,
@@ -83,6 +83,7 @@ pub fn silent() -> Reply
 }
 
 // An opcode with the top byte of an acknowledgement.
+#[tactic(auto, unfolding(crate::specs::rules::Replies::acknowledged))]
 pub fn acknowledgement(opcode: u32) -> u32
     ensures { result ≡ acknowledged opcode }
 {
@@ -90,6 +91,7 @@ pub fn acknowledgement(opcode: u32) -> u32
 }
 
 // One word for the host.
+#[tactic(auto, unfolding(crate::specs::rules::Replies::one_word))]
 pub fn reply_word(word: u32) -> Reply
     ensures { result ≡ one_word word }
 {
@@ -144,10 +146,10 @@ fn stopped(core: Core) -> Core
 
 // Refused: no reply, no event, the session ended.
 pub fn refuse(core: Core, refusal: Refusal) -> Taken
-    ensures { result ≡ refused core refusal }
+    ensures { result ≡ refused core (Some refusal) }
 {
     Taken {
-        refusal,
+        refusal: Some(refusal),
         reply: silent(),
         event: Event::Nothing,
         core: stopped(core),
@@ -159,7 +161,7 @@ pub fn refuse(core: Core, refusal: Refusal) -> Taken
 pub fn say(reply: Reply, core: Core) -> Taken
     ensures { result ≡ said reply core }
 {
-    let refusal = Refusal::None;
+    let refusal = None;
     Taken {
         refusal,
         reply,
@@ -179,33 +181,31 @@ pub fn tell_wrote(taken: Taken, wrote: Wrote) -> Taken
 }
 
 // The answer to a command that was judged and done, with the totals that it leaves.
+#[tactic(auto, unfolding(crate::specs::rules::Answers::after, words::specs::rules::Choice::pick))]
 pub fn finish(core: Core, totals: Totals, done: Done) -> Taken
     ensures { result ≡ after core totals done }
 {
-    let refusal = done.refusal;
-    let event = done.event;
-    if refusal.code() == 0 {
-        return Taken {
-            refusal: Refusal::None,
+    match done.refusal {
+        None => Taken {
+            refusal: None,
             reply: silent(),
-            event,
+            event: done.event,
             core: moved(core, done.checksum, totals, Phase::Opcode),
             wrote: commands::wrote_none(),
-        };
+        },
+        Some(refusal) => refuse(core, refusal),
     }
-    refuse(core, refusal)
 }
 
 // Entered: the session is ended, and a DM648 says DONE.
+#[tactic(auto, unfolding(crate::specs::rules::Answers::entered, words::specs::rules::Choice::pick))]
 pub fn enter(taken: Taken) -> Taken
     ensures { result ≡ entered taken }
 {
-    let refusal = taken.refusal;
-    if refusal.code() == 0 {
+    if taken.refusal.is_none() {
         let core = taken.core;
-        let dialect = core.dialect;
         let mut last = taken;
-        last.reply = last_reply(dialect);
+        last.reply = last_reply(core.dialect);
         last.core = stopped(core);
         return last;
     }

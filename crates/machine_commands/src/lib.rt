@@ -143,6 +143,7 @@ fn jump_and_close(core: Core, kept: Kept, word: u32) -> Taken
 }
 
 // What is awaited while words to echo are left.
+#[tactic(auto, unfolding(crate::specs::rules::Performed::echoing, words::specs::rules::Choice::pick))]
 fn ping_phase(left: u32) -> Phase
     ensures { result ≡ echoing left }
 {

@@ -1,4 +1,5 @@
 -- A granted load lies inside the lent memory, and the bytes of a data word that belong to the load, by their place.
+use Rattle.std.specs.Prelude.{Option, Some, None, Ok, ok_or}
 use Prim.Native.Nat.{ℕ, zero, suc, ◌+◌, ◌≤◌, ◌<◌, min}
 use mathlib.Core.List.{List, [], ◌∷◌}
 use mathlib.Core.Path.{◌≡◌, refl, ap, ◌∙◌}
@@ -7,27 +8,24 @@ use lib.ListN.{length, get_or, length-take}
 use lib.Seq.{get_or-take}
 use Rattle.words.specs.rules.Bytes.{byte}
 use Rattle.windows.specs.rules.Window.{place_of, sum_of}
-use Rattle.windows.specs.declared.Place.{Place}
-use Rattle.windows.specs.declared.Place.TheVariants.{At, Nowhere}
 use Rattle.windows.specs.declared.Right.TheVariants.{Load}
 use Rattle.windows.specs.declared.Window.{Window}
 use Rattle.windows.proofs.Laws.{placed_inside}
-use Rattle.opcodes.specs.declared.Refusal.TheVariants as refusal
-use Rattle.commands.specs.rules.Commands.{placed, range_judged, load_judged}
-use Rattle.commands.specs.declared.Judged.TheVariants.{Granted}
+use Rattle.opcodes.specs.declared.Refusal.TheVariants as why
+use Rattle.commands.specs.rules.Commands.{range_judged, load_judged}
 use Rattle.machine_loads.specs.rules.Loads.{data_bytes}
 
 -- a load that is granted lies inside the lent memory
-pub granted_inside : (windows : List Window) (address size place : ℕ) → load_judged windows address size ≡ Granted place
+pub granted_inside : (windows : List Window) (address size place : ℕ) → load_judged windows address size ≡ Ok place
     → place + size ≤ sum_of windows
 unfolding load_judged range_judged
 granted_inside windows address size place granted = go (place_of windows Load address size) refl granted
   where
-    go : (found : Place) → place_of windows Load address size ≡ found → placed refusal.Range found ≡ Granted place → place + size ≤ sum_of windows
-    go (At q) e g =
+    go : (found : Option ℕ) → place_of windows Load address size ≡ found → ok_or found why.Range ≡ Ok place → place + size ≤ sum_of windows
+    go (Some q) e g =
         let same : q ≡ place = cc in
-        placed_inside windows Load address size place (e ∙ ap At same)
-    go Nowhere e g = let z : ◌≡◌ {A = ℕ} 0 1 = cc in omega arith
+        placed_inside windows Load address size place (e ∙ ap Some same)
+    go None e g = let z : ◌≡◌ {A = ℕ} 0 1 = cc in omega arith
 
 -- the bytes of a word, by their place
 four_bytes : (word i : ℕ) → i < 4 → get_or (byte word 0 ∷ byte word 1 ∷ byte word 2 ∷ byte word 3 ∷ []) i 0 ≡ byte word i

@@ -1,16 +1,16 @@
 -- A load that is accepted was granted and found a number, so the next number after it is one more than its own.
+use Rattle.opcodes.specs.rules.Answers.{accepted}
 use Prim.Native.Nat.{ℕ, ◌+◌, ◌<◌}
 use mathlib.Core.List.{List}
 use mathlib.Core.Path.{◌≡◌, refl, ap, ◌∙◌}
 use native.Mathlib.Omega.{arith}
 use Rattle.opcodes.specs.declared.Dialect.{Dialect}
 use Rattle.opcodes.specs.declared.Dialect.TheVariants.{Am17xx, Dm648}
-use Rattle.opcodes.specs.declared.Refusal.TheVariants.{None}
+use Rattle.opcodes.specs.rules.Refusals.{None}
 use Rattle.ledger.specs.rules.Totals.{counted, following}
 use Rattle.ledger.specs.declared.Totals.{Totals}
 use Rattle.ledger.proofs.Laws.{numbers_on}
-use Rattle.commands.specs.rules.Commands.{load_judged}
-use Rattle.commands.specs.declared.Judged.{Judged}
+use Rattle.commands.specs.rules.Commands.{load_judged, Judged}
 use Rattle.commands.proofs.Judging.{load_passes}
 use Rattle.machine_loads.specs.rules.Loads.{load_begun, load_taken}
 use Rattle.machine_loads.specs.claims.Numbers.{DataByTheLoad}

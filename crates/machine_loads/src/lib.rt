@@ -10,11 +10,11 @@ ghost use Rattle.stores.specs.rules.Stores.{loaded};
 ghost use Rattle.machine_answers.specs.rules.Counts.{out_of_numbers, overflowing};
 ghost use Rattle.machine_loads.specs.rules.Loads.{awaited, load_begun, data_bytes, data_taken};
 
-use commands::Judged;
 use machine_answers::{Core, Phase, Taken};
 use windows::Window;
 
 // What is awaited while bytes of a load are left.
+#[tactic(auto, unfolding(crate::specs::rules::Loads::awaited, words::specs::rules::Choice::pick))]
 fn data_phase(end: usize, left: u32) -> Phase
     ensures { result ≡ awaited end left }
 {
@@ -25,6 +25,7 @@ fn data_phase(end: usize, left: u32) -> Phase
 }
 
 // What a granted load feeds at its size word.
+#[tactic(auto, unfolding(checksum::specs::rules::Checksum::fed_words, words::specs::rules::Choice::pick))]
 fn feed_head(on: bool, checksum: u32, address: u32, size: u32) -> u32
     ensures { result ≡ pick on (fed_words checksum (address ∷ size ∷ [])) checksum }
 {
@@ -54,7 +55,7 @@ pub fn begin_load(core: Core, address: u32, size: u32) -> Taken
         commands::judge_load(windows, address, size),
     );
     match judged {
-        Judged::Granted(place) => {
+        Ok(place) => {
             let tally = core.tally;
             let checksum = feed_head(core.on, tally.checksum, address, size);
             let phase = data_phase(end_of(windows, place, size), size);
@@ -68,7 +69,7 @@ pub fn begin_load(core: Core, address: u32, size: u32) -> Taken
                 ),
             )
         }
-        Judged::Refused(refusal) => machine_answers::refuse(core, refusal),
+        Err(refusal) => machine_answers::refuse(core, refusal),
     }
 }
 
@@ -89,15 +90,13 @@ fn put_data(memory: &mut [u8], at: usize, left: u32, word: u32)
     if memory.len() <= at {
         return;
     }
-    let count = machine_answers::counts::four_at_most(left);
-    let mut i: u32 = 0;
-    while i < count {
+    for i in 0..left.min(4) {
         words::put_byte(memory, at + (i as usize), words::byte_of(word, i));
-        i += 1;
     }
 }
 
 // What a data word feeds.
+#[tactic(auto, unfolding(words::specs::rules::Choice::pick))]
 fn feed_data(on: bool, checksum: u32, word: u32, left: u32) -> u32
     ensures { result ≡ pick on (fed checksum word (8 * min left 4)) checksum }
 {
@@ -129,7 +128,7 @@ fn data_answer(core: Core, end: usize, left: u32, word: u32) -> Taken
             machine_answers::moved(core, checksum, totals, phase),
         ),
         commands::wrote_bytes(
-            Judged::Granted(place),
+            Ok(place),
             machine_answers::counts::four_at_most(left),
             machine_answers::counts::less_one(totals.next),
         ),

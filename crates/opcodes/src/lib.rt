@@ -2,14 +2,12 @@
 #![tactic(auto)]
 
 ghost use Rattle.std.specs.Prelude.{◌≡◌};
-ghost use Rattle.words.specs.rules.Choice.{pick};
-ghost use Rattle.opcodes.specs.rules.Answers.{code_of, kind_of, value_of};
+ghost use Rattle.opcodes.specs.rules.Answers.{number_of, code_of, kind_of, value_of};
 ghost use Rattle.opcodes.specs.rules.Opcodes.{in_mode, in_dialect, row_serves, looked_up};
 
-// Why a call is refused; `None` where it is not.
-#[derive(Clone, Copy)]
+// Why a call is refused.
+#[derive(Clone, Copy, Debug, PartialEq, Eq)]
 pub enum Refusal {
-    None,
     Map,
     Memory,
     Image,
@@ -39,10 +37,9 @@ pub enum Refusal {
 impl Refusal {
     // The number on a fitter's card.
     pub fn code(self) -> u8
-        ensures { result ≡ code_of self }
+        ensures { result ≡ number_of self }
     {
         match self {
-            Refusal::None => 0,
             Refusal::Map => 1,
             Refusal::Memory => 2,
             Refusal::Image => 3,
@@ -71,8 +68,18 @@ impl Refusal {
     }
 }
 
+// The number of what is said of a call; 0 where nothing is refused.
+pub fn code_of(refusal: Option<Refusal>) -> u8
+    ensures { result ≡ code_of refusal }
+{
+    match refusal {
+        None => 0,
+        Some(refusal) => refusal.code(),
+    }
+}
+
 // What the caller is asked to do, since nothing is executed here.
-#[derive(Clone, Copy)]
+#[derive(Clone, Copy, Debug, PartialEq, Eq)]
 pub enum Event {
     Nothing,
     Wait(u32),
@@ -104,20 +111,20 @@ impl Event {
 }
 
 // How the words of a script arrive.
-#[derive(Clone, Copy)]
+#[derive(Clone, Copy, Debug, PartialEq, Eq)]
 pub enum Mode {
     Sent,
     Flash,
 }
 
 // The board family that a script is written for.
-#[derive(Clone, Copy)]
+#[derive(Clone, Copy, Debug, PartialEq, Eq)]
 pub enum Dialect {
     Am17xx,
     Dm648,
 }
 
-#[derive(Clone, Copy)]
+#[derive(Clone, Copy, Debug, PartialEq, Eq)]
 pub enum Command {
     Load,
     Fill,
@@ -257,12 +264,11 @@ pub const ROWS: [Row; 12] = [
 // The opcode that no mode takes any more: Jump.
 pub const RETIRED: u32 = 0x5853_5905;
 
-// What the table says of a word where an opcode is awaited.
-#[derive(Clone, Copy)]
-pub enum Found {
-    Known(Command, u32),
-    Retired,
-    Unknown,
+// A command with the count of its argument words, as the table has them.
+#[derive(Clone, Copy, Debug, PartialEq, Eq)]
+pub struct Known {
+    pub command: Command,
+    pub words: u32,
 }
 
 // Does a mode allow a row?
@@ -289,41 +295,24 @@ fn in_dialect(row: Row, dialect: Dialect) -> bool
 fn serves(row: Row, opcode: u32, mode: Mode, dialect: Dialect) -> bool
     ensures { result ≡ row_serves row opcode mode dialect }
 {
-    if row.opcode != opcode {
-        return false;
-    }
-    if in_mode(row, mode) {
-        return in_dialect(row, dialect);
-    }
-    false
+    row.opcode == opcode && in_mode(row, mode) && in_dialect(row, dialect)
 }
 
-// What a row says of an opcode in a mode and a dialect, or else what those after it say.
-fn row_first(row: Row, opcode: u32, mode: Mode, dialect: Dialect, later: Found) -> Found
-    ensures { result ≡ pick (row_serves row opcode mode dialect) (Found.Known row.command row.words) later }
-{
-    if serves(row, opcode, mode, dialect) {
-        let command = row.command;
-        return Found::Known(command, row.words);
-    }
-    later
-}
-
-// The command of an opcode in a mode and a dialect, with its argument words, unless the opcode is retired. The rows are gone through from the last to the
-// first.
-pub fn look_up(opcode: u32, mode: Mode, dialect: Dialect) -> Found
+// The command of an opcode in a mode and a dialect, with its argument words: the first row that serves has them. Refused is the retired opcode, and an opcode
+// that no row serves.
+pub fn look_up(opcode: u32, mode: Mode, dialect: Dialect) -> Result<Known, Refusal>
     ensures { result ≡ looked_up opcode mode dialect }
 {
     if opcode == RETIRED {
-        return Found::Retired;
+        return Err(Refusal::Retired);
     }
-    let table = ROWS;
-    let mut found = Found::Unknown;
-    let mut i: usize = 12;
-    while 0 < i {
-        i -= 1;
-        let row = table[i];
-        found = row_first(row, opcode, mode, dialect, found);
+    for row in &ROWS {
+        if serves(*row, opcode, mode, dialect) {
+            return Ok(Known {
+                command: row.command,
+                words: row.words,
+            });
+        }
     }
-    found
+    Err(Refusal::Opcode)
 }

@@ -12,7 +12,7 @@ use sent::Session;
 // The answer to a byte, without the session.
 #[derive(Clone, Copy)]
 pub struct Told {
-    pub refusal: Refusal,
+    pub refusal: Option<Refusal>,
     pub reply: Reply,
     pub event: Event,
 }

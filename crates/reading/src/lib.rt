@@ -2,44 +2,51 @@
 #![tactic(auto)]
 
 ghost use Rattle.std.specs.Prelude.{◌≡◌, ◌+◌, ◌≤◌, length};
-ghost use Rattle.reading.specs.rules.Reading.{present, argument, data_words, data_size, past_data, read_as, read_at};
+ghost use Rattle.reading.specs.rules.Reading.{present, argument, data_words, data_size, past_data, unread, read_as, read_at};
 
-use opcodes::{Command, Dialect, Found, Mode, Refusal};
+use opcodes::{Command, Dialect, Known, Mode, Refusal};
 
-// What stands at an offset of an image: a command whose words are all there, with the count of its argument words; or why there is none, with the count of the
-// words that were fetched to see it.
-#[derive(Clone, Copy)]
-pub enum Read {
-    Whole(Command, u32),
-    Refused(Refusal, u32),
+// Why no command stands at an offset, with the count of the words that were fetched to see it.
+#[derive(Clone, Copy, Debug, PartialEq, Eq)]
+pub struct Unread {
+    pub refusal: Refusal,
+    pub fetched: u32,
 }
 
-// What the table says of the opcode at an offset; then the argument words are looked for.
-fn read_row(found: Found, image: &[u8], offset: u32) -> Read
-    requires { offset + 4 ≤ length image.now }
-    ensures { result ≡ read_as image.now offset found }
+// Words are missing, so many having been fetched.
+fn missing(fetched: u32) -> Unread
+    ensures { result ≡ unread Refusal.Missing fetched }
 {
-    match found {
-        Found::Unknown => Read::Refused(Refusal::Opcode, 1),
-        Found::Retired => Read::Refused(Refusal::Retired, 1),
-        Found::Known(command, words) => {
-            let at = offset as usize;
-            if image.len() < at + 4 * (1 + (words as usize)) {
-                let there = (image.len() - at) / 4;
-                return Read::Refused(Refusal::Missing, there as u32);
-            }
-            Read::Whole(command, words)
-        }
+    Unread {
+        refusal: Refusal::Missing,
+        fetched,
     }
 }
 
-// What stands at an offset, for a dialect.
-pub fn read_at(image: &[u8], offset: u32, dialect: Dialect) -> Read
+// What the table says of the opcode at an offset; then the argument words are looked for.
+fn read_row(found: Result<Known, Refusal>, image: &[u8], offset: u32) -> Result<Known, Unread>
+    requires { offset + 4 ≤ length image.now }
+    ensures { result ≡ read_as image.now offset found }
+{
+    let known = found.map_err(|refusal| Unread {
+        refusal,
+        fetched: 1,
+    })?;
+    let at = offset as usize;
+    if image.len() < at + 4 * (1 + (known.words as usize)) {
+        let there = (image.len() - at) / 4;
+        return Err(missing(there as u32));
+    }
+    Ok(known)
+}
+
+// What stands at an offset of an image, for a dialect: a command whose words are all there, or why there is none.
+pub fn read_at(image: &[u8], offset: u32, dialect: Dialect) -> Result<Known, Unread>
     ensures { result ≡ read_at image.now offset dialect }
 {
     let at = offset as usize;
     if image.len() < at + 4 {
-        return Read::Refused(Refusal::Missing, 0);
+        return Err(missing(0));
     }
     let found = opcodes::look_up(words::word_at(image, at), Mode::Flash, dialect);
     read_row(found, image, offset)
@@ -77,9 +84,9 @@ pub fn data_size(command: Command, image: &[u8], offset: u32) -> u32
 }
 
 // Where a command with so many argument words ends with its data.
-pub fn end_of(command: Command, words: u32, image: &[u8], offset: u32) -> usize
-    ensures { result ≡ past_data command words image.now offset }
+pub fn end_of(known: Known, image: &[u8], offset: u32) -> usize
+    ensures { result ≡ past_data known.command known.words image.now offset }
 {
-    let data = data_words(data_size(command, image, offset));
-    (offset as usize) + 4 * (1 + (words as usize)) + 4 * (data as usize)
+    let data = data_words(data_size(known.command, image, offset));
+    (offset as usize) + 4 * (1 + (known.words as usize)) + 4 * (data as usize)
 }

@@ -8,7 +8,7 @@ use lib.ListN.{length}
 use borrow.Author.Tests.{lt-ltb, le-ltb, eq-eqb, ne_eqb}
 use Rattle.words.proofs.Choice.{chosen, passed}
 use Rattle.windows.specs.rules.Window.{sum_of}
-use Rattle.opcodes.specs.declared.Refusal.TheVariants as refusal
+use Rattle.opcodes.specs.rules.Refusals as refusal
 use Rattle.sent.specs.rules.Bus.{units_in_word, start_unit, pushed}
 use Rattle.sent.specs.rules.Line.{plainly, gathered, carried, is_start, unit_step}
 use Rattle.machine_answers.specs.rules.Answers as machine

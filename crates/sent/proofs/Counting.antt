@@ -11,7 +11,7 @@ use Rattle.words.proofs.Choice.{of_choice}
 use Rattle.windows.specs.rules.Window.{sum_of}
 use Rattle.opcodes.specs.declared.Dialect.{Dialect}
 use Rattle.opcodes.specs.declared.Dialect.TheVariants.{Am17xx}
-use Rattle.opcodes.specs.declared.Refusal.{Refusal}
+use Rattle.opcodes.specs.rules.Refusals.{Verdict}
 use Rattle.ledger.specs.claims.Agreement.{Zero}
 use Rattle.ledger.specs.rules.Totals.{at_opening, numbered_as}
 use Rattle.ledger.specs.declared.Totals.{Totals}
@@ -90,12 +90,12 @@ module _ (k : Core) (a b by : Totals) (l : Line) where
   abbrev second : Session
   second = record { core = having Am17xx k (numbered_as b by); line = l }
 
-  plain_alike : (q : Refusal) (reply : Reply) (started : Bool) (have word : ℕ) (m : List ℕ)
+  plain_alike : (q : Verdict) (reply : Reply) (started : Bool) (have word : ℕ) (m : List ℕ)
       → bare_line (plainly q reply (gathered first started have word) m) ≡ bare_line (plainly q reply (gathered second started have word) m)
   unfolding bare_line
   plain_alike q reply started have word m = refl
 
-  same_alike : (q : Refusal) (reply : Reply) (m : List ℕ) → bare_line (plainly q reply first m) ≡ bare_line (plainly q reply second m)
+  same_alike : (q : Verdict) (reply : Reply) (m : List ℕ) → bare_line (plainly q reply first m) ≡ bare_line (plainly q reply second m)
   unfolding bare_line
   same_alike q reply m = refl
 

@@ -5,8 +5,8 @@ use mathlib.Core.Path.{◌≡◌, refl, sym, ap, subst, ◌∙◌}
 use lib.ListN.{length, replicate}
 use Rattle.opcodes.specs.rules.Answers.{told}
 use Rattle.opcodes.specs.declared.Event.{Event}
-use Rattle.opcodes.specs.declared.Refusal.{Refusal}
-use Rattle.opcodes.specs.declared.Refusal.TheVariants.{None}
+use Rattle.opcodes.specs.rules.Refusals.{Verdict}
+use Rattle.opcodes.specs.rules.Refusals.{None}
 use Rattle.machine_answers.specs.rules.Replies.{sent_bytes}
 use Rattle.sent.specs.rules.Bus.{units_of, all_units}
 use Rattle.sent.specs.rules.Feeding.{State, Heard, next, heard, fed, answers, replied, events_heard, NoneRefused}
@@ -52,12 +52,12 @@ events_append [] gs = refl
 events_append (h ∷ hs) gs = ap (λ (l : List Event). told h.event ++ l) (events_append hs gs) ∙ sym (append_assoc (told h.event) _ _)
 
 -- those of units that are all refused
-pub none_replied : (q : Refusal) (n : ℕ) → replied (replicate n (refused_by q)) ≡ []
+pub none_replied : (q : Verdict) (n : ℕ) → replied (replicate n (refused_by q)) ≡ []
 unfolding replied
 none_replied q zero = refl
 none_replied q (suc n) = none_replied q n
 
-pub none_told : (q : Refusal) (n : ℕ) → events_heard (replicate n (refused_by q)) ≡ []
+pub none_told : (q : Verdict) (n : ℕ) → events_heard (replicate n (refused_by q)) ≡ []
 unfolding events_heard
 none_told q zero = refl
 none_told q (suc n) = none_told q n

@@ -13,10 +13,10 @@ use Rattle.words.specs.rules.Bytes.{byte}
 use Rattle.words.proofs.Choice.{chosen, of_choice}
 use Rattle.windows.specs.rules.Window.{sum_of}
 use Rattle.windows.specs.declared.Window.{Window}
-use Rattle.opcodes.specs.rules.Answers.{code_of}
+use Rattle.opcodes.specs.rules.Answers.{code_of, accepted}
 use Rattle.opcodes.specs.declared.Dialect.{Dialect}
-use Rattle.opcodes.specs.declared.Refusal.{Refusal}
-use Rattle.opcodes.specs.declared.Refusal.TheVariants as refusal
+use Rattle.opcodes.specs.rules.Refusals.{Verdict}
+use Rattle.opcodes.specs.rules.Refusals as refusal
 use Rattle.sent.specs.rules.Bus.{unit_bits, units_in_word, units_of, first_unit, pushed}
 use Rattle.sent.specs.rules.Feeding.{State, Heard, next, fed, answers, NoneRefused}
 use Rattle.sent.specs.claims.Lift.{at_word, silent, heard_word, Plain, Ready, UnitsAreTheWord, Absorbed, bootme, Lines}
@@ -145,7 +145,7 @@ word_accepted bus k m word ready n =
     last_none bus (word_step k m word).answer (subst AllNone (units_are_the_word bus k m word ready).hears (none_heard bus (at_word k m) (units_of bus word) n))
 
 -- a session that refuses a unit and stays as it is, refuses them all
-refuses_all : (bus : Bus) (x : State) (q : Refusal) → ((u : ℕ) → unit_step bus x.session x.memory u ≡ plainly q silence x.session x.memory)
+refuses_all : (bus : Bus) (x : State) (q : Verdict) → ((u : ℕ) → unit_step bus x.session x.memory u ≡ plainly q silence x.session x.memory)
     → (units : List ℕ) → Absorbed bus x units q
 unfolding fed answers
 refuses_all bus x q step [] = record { stays = refl; hears = refl }

@@ -1,7 +1,7 @@
 // Sent mode: a host feeds units over a line, bytes or halves of a word; so many make a word, and the word machine takes whole words.
 #![tactic(auto)]
 
-ghost use Rattle.std.specs.Prelude.{◌≡◌, [], true, ◌+◌, ◌-◌, ◌*◌, ◌^◌, ◌<◌, eqb, get_or, replicate};
+ghost use Rattle.std.specs.Prelude.{◌≡◌, [], true, ◌+◌, ◌-◌, ◌*◌, ◌^◌, ◌<◌, eqb, get_or, replicate, Some};
 ghost use Rattle.words.specs.rules.Choice.{pick};
 ghost use Rattle.checksum.specs.rules.Checksum.{fed};
 ghost use Rattle.windows.specs.rules.Map.{zero_window};
@@ -46,7 +46,7 @@ pub struct Session {
 // The answer to a unit, likewise.
 #[derive(Clone, Copy)]
 pub struct Answer {
-    pub refusal: Refusal,
+    pub refusal: Option<Refusal>,
     pub reply: Reply,
     pub event: Event,
     pub session: Session,
@@ -56,7 +56,7 @@ pub struct Answer {
 // The answer to an opening, with the greeting where it is not refused.
 #[derive(Clone, Copy)]
 pub struct Opened {
-    pub refusal: Refusal,
+    pub refusal: Option<Refusal>,
     pub reply: Reply,
     pub session: Session,
 }
@@ -157,7 +157,7 @@ pub fn open_on(bus: Bus, dialect: Dialect, count: usize, windows: [Window; 8]) -
         return shut();
     }
     Opened {
-        refusal: Refusal::None,
+        refusal: None,
         reply: greet(bus),
         session: begin(dialect, windows::kept(count, windows), false),
     }
@@ -176,7 +176,7 @@ fn number_from(opened: Opened) -> Opened
     ensures { result ≡ numbering_from opened }
 {
     let refusal = opened.refusal;
-    if refusal.code() == 0 {
+    if refusal.is_none() {
         let reply = opened.reply;
         let session = from_one(opened.session);
         return Opened {
@@ -223,24 +223,24 @@ fn hear(session: Session, memory: &mut [u8], bus: Bus, unit: u32) -> Answer
 {
     let core = session.core;
     if core.ended {
-        return tell(Refusal::Ended, machine_answers::silent(), session);
+        return tell(Some(Refusal::Ended), machine_answers::silent(), session);
     }
     let windows = core.windows;
     if memory.len() != windows::sum(windows) {
-        return tell(Refusal::Memory, machine_answers::silent(), session);
+        return tell(Some(Refusal::Memory), machine_answers::silent(), session);
     }
     let line = session.line;
     if is_start(bus, session, unit) {
         let started = gather(session, true, line.have, line.word);
-        return tell(Refusal::None, start_reply(bus), started);
+        return tell(None, start_reply(bus), started);
     }
     if !line.started {
-        return tell(Refusal::None, machine_answers::silent(), session);
+        return tell(None, machine_answers::silent(), session);
     }
     let word = push(bus, line.word, unit);
     if line.have < last_unit(bus) {
         let gathered = gather(session, true, line.have + 1, word);
-        return tell(Refusal::None, machine_answers::silent(), gathered);
+        return tell(None, machine_answers::silent(), gathered);
     }
     carry(session, machine::take_word(core, memory, word))
 }
@@ -277,7 +277,7 @@ fn begin(dialect: Dialect, windows: [Window; 8], ended: bool) -> Session
 
 // A refused opening.
 fn shut() -> Opened
-    ensures { result ≡ record { refusal = Refusal.Map; reply = silence; session = at_start Dialect.Am17xx (replicate 8 zero_window) true } }
+    ensures { result ≡ record { refusal = Some Refusal.Map; reply = silence; session = at_start Dialect.Am17xx (replicate 8 zero_window) true } }
 {
     let none = Window {
         first: 0,
@@ -285,7 +285,7 @@ fn shut() -> Opened
         rights: 0,
     };
     Opened {
-        refusal: Refusal::Map,
+        refusal: Some(Refusal::Map),
         reply: machine_answers::silent(),
         session: begin(Dialect::Am17xx, [none; 8], true),
     }
@@ -331,7 +331,7 @@ fn start_reply(bus: Bus) -> Reply
 }
 
 // An answer with no event.
-fn tell(refusal: Refusal, reply: Reply, session: Session) -> Answer
+fn tell(refusal: Option<Refusal>, reply: Reply, session: Session) -> Answer
     ensures { result ≡ (plainly refusal reply session []).answer }
 {
     Answer {
@@ -440,10 +440,10 @@ fn push(bus: Bus, word: u32, unit: u32) -> u32
 }
 
 // The line after a whole word: refused, its units stay gathered; accepted, the next word begins.
-fn line_after(line: Line, refusal: Refusal) -> Line
+fn line_after(line: Line, refusal: Option<Refusal>) -> Line
     ensures { result ≡ pick (accepted refusal) (record { started = line.started; have = 0; word = 0 }) line }
 {
-    if refusal.code() == 0 {
+    if refusal.is_none() {
         return Line {
             started: line.started,
             have: 0,

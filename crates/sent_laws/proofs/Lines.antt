@@ -10,9 +10,9 @@ use borrow.Author.Tests.{eqb-true, eqb-false}
 use Rattle.words.specs.rules.Choice.{pick}
 use Rattle.words.proofs.Choice.{passed, by_test}
 use Rattle.windows.specs.rules.Window.{sum_of}
-use Rattle.opcodes.specs.rules.Answers.{code_of}
-use Rattle.opcodes.specs.declared.Refusal.{Refusal}
-use Rattle.opcodes.specs.declared.Refusal.TheVariants as refusal
+use Rattle.opcodes.specs.rules.Answers.{code_of, accepted}
+use Rattle.opcodes.specs.rules.Refusals.{Verdict}
+use Rattle.opcodes.specs.rules.Refusals as refusal
 use Rattle.machine_answers.specs.declared.Core.{Core}
 use Rattle.machine_answers.specs.declared.Phase.TheVariants.{Opcode}
 use Rattle.machine_answers.specs.declared.Taken.{Taken}
@@ -46,14 +46,14 @@ first_append [] gs = refl
 first_append (h ∷ hs) gs = ap (first_of (code_of h.refusal)) (first_append hs gs) ∙ first_both (code_of h.refusal) (first_refused hs) (first_refused gs)
 
 -- of units that are all refused: their refusal where there is one, by bytes as by halves
-refused_alike : (words : List ℕ) (q : Refusal) → eqb (code_of q) 0 ≡ false
+refused_alike : (words : List ℕ) (q : Verdict) → eqb (code_of q) 0 ≡ false
     → first_refused (replicate (length (all_units Bytes words)) (refused_by q)) ≡ first_refused (replicate (length (all_units Halves words)) (refused_by q))
 unfolding first_refused first_of
 refused_alike [] q e = refl
 refused_alike (word ∷ words) q e = passed _ _ _ e ∙ sym (passed _ _ _ e)
 
 -- two sessions with the same core and the same memory, which refuse all
-refused_either : (x y : State) (words : List ℕ) (q : Refusal) → eqb (code_of q) 0 ≡ false → x.session.core ≡ y.session.core → x.memory ≡ y.memory
+refused_either : (x y : State) (words : List ℕ) (q : Verdict) → eqb (code_of q) 0 ≡ false → x.session.core ≡ y.session.core → x.memory ≡ y.memory
     → Absorbed Bytes x (all_units Bytes words) q → Absorbed Halves y (all_units Halves words) q → EitherLine x y words
 refused_either x y words q e core memory left right =
     record {

@@ -10,7 +10,7 @@ use Rattle.windows.specs.declared.Window.{Window}
 use Rattle.opcodes.specs.rules.Answers.{accepted, code_of}
 use Rattle.opcodes.specs.declared.Dialect.{Dialect}
 use Rattle.opcodes.specs.declared.Dialect.TheVariants.{Am17xx}
-use Rattle.opcodes.specs.declared.Refusal.TheVariants.{None}
+use Rattle.opcodes.specs.rules.Refusals.{None}
 use Rattle.ledger.specs.claims.Agreement.{Zero}
 use Rattle.machine_answers.specs.declared.Phase.TheVariants as phase
 use Rattle.machine.specs.claims.Wrote.{KeepsNumbers}

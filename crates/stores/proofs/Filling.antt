@@ -4,9 +4,11 @@ use Prim.Native.Nat.{ℕ, zero, suc, ◌+◌, ◌-◌, ◌*◌, ◌/◌, ◌%◌
 use mathlib.Core.List.{List}
 use mathlib.Core.Path.{◌≡◌, sym, ap, ◌∙◌}
 use native.Mathlib.Decide.{dec_lt}
-use native.Mathlib.Nat.{zero-add, mod-lt, mod-eq_of_lt, mod-eq-sub-mod, mod-mod_of_dvd, dvd_of_mod-eq-zero, mul-mod_right}
+use native.Mathlib.Nat.{mod-lt, mod-eq_of_lt, mod-eq-sub-mod, mod-mod_of_dvd, dvd_of_mod-eq-zero, mul-mod_right}
 use native.Mathlib.Omega.{arith}
 use lib.Dec.{lit≤}
+use mir.Syntax.{w32}
+use Rattle.std.specs.Int.{to_le_bytes}
 use lib.ListN.{length, get_or, take}
 use lib.Pow.{field, mod-mod-pow, shr-shr}
 use lib.Seq.{length-take-le, get_or-take}
@@ -15,7 +17,7 @@ use Rattle.words.specs.rules.Bytes.{byte, put, size_of, written}
 use Rattle.words.specs.declared.Unit.{Unit as UnitOf}
 use Rattle.words.specs.declared.Unit.TheVariants.{Four}
 use Rattle.words.proofs.Joins.{join_low, join_high}
-use Rattle.words.proofs.Puts.{length_put, put_clamped, put_inside, put_same, put_append}
+use Rattle.words.proofs.Puts.{length_put, put_clamped, put_same, put_append}
 use Rattle.words.proofs.Units.{write_done}
 use Rattle.stores.specs.rules.Stores.{loaded, filled}
 
@@ -90,13 +92,17 @@ filled_whole m at size unit pattern word n j same h all =
     ∙ put_same m at (4 * n + j) {g = λ i. byte pattern (i % size_of unit)} (λ i l. same i)
     ∙ rw (all, ← (put_clamped m at size (λ i. byte pattern (i % size_of unit))))
 
+-- the bytes of a word, lowest first
+le_byte : (word i : ℕ) → i < 4 → get_or (to_le_bytes w32 word) i 0 ≡ byte word i
+unfolding byte
+le_byte word zero h = omega arith
+le_byte word (suc zero) h = omega arith
+le_byte word (suc (suc zero)) h = omega arith
+le_byte word (suc (suc (suc zero))) h = omega arith
+le_byte word (suc (suc (suc (suc i)))) h = omega arith
+
 -- a load of the first bytes of a word writes its low bytes
-pub low_loaded : (m bytes : List ℕ) (at n word : ℕ) → n ≤ 4 → 4 ≤ length bytes
-    → loaded m at (take n (written bytes 0 Four word)) ≡ put m at n (byte word)
+pub low_loaded : (m : List ℕ) (at n word : ℕ) → n ≤ 4 → loaded m at (take n (to_le_bytes w32 word)) ≡ put m at n (byte word)
 unfolding loaded
-low_loaded m bytes at n word h l =
-    rw (← (write_done bytes 0 Four word (omega arith)).1, length-take-le n (put bytes 0 4 (byte word)) (rw length_put (omega arith)))
-    (put_same m at n (λ i k.
-    get_or-take n _ i 0 k
-    ∙ ap (λ (j : ℕ). get_or (put bytes 0 4 (byte word)) j 0) (sym (zero-add i))
-    ∙ put_inside bytes 0 4 (byte word) i (omega arith) (omega arith)))
+low_loaded m at n word h =
+    rw (length-take-le n (to_le_bytes w32 word) h) (put_same m at n (λ i l. get_or-take n _ i 0 l ∙ le_byte word i (omega arith)))

@@ -8,13 +8,6 @@ ghost use Rattle.stores.specs.rules.Stores.{loaded, words_fed, load_fed, filled}
 
 use words::Unit;
 
-// The smaller of two numbers.
-fn least(a: usize, b: usize) -> usize
-    ensures { result ≡ min a b }
-{
-    if a < b { a } else { b }
-}
-
 // The bytes of a load, lowest address first; none past the end.
 fn copy(memory: &mut [u8], place: usize, bytes: &[u8])
     ensures { memory.new ≡ loaded memory.old place bytes.now }
@@ -22,12 +15,8 @@ fn copy(memory: &mut [u8], place: usize, bytes: &[u8])
     if memory.len() <= place {
         return;
     }
-    let n = least(bytes.len(), memory.len() - place);
-    let mut i: usize = 0;
-    while i < n {
-        memory[place + i] = bytes[i];
-        i += 1;
-    }
+    let n = bytes.len().min(memory.len() - place);
+    memory[place..place + n].copy_from_slice(&bytes[..n]);
 }
 
 // What the data of a load feed: a word at a time, of the last only the bytes that are left.
@@ -35,33 +24,10 @@ fn feed_data(checksum: u32, bytes: &[u8]) -> u32
     ensures { result ≡ words_fed checksum ((length bytes.now + 3) / 4) bytes.now }
 {
     let mut reached = checksum;
-    let mut at: usize = 0;
-    while at < bytes.len() {
-        let word = words::number_of(&bytes[at..]);
-        reached = checksum::feed(reached, word, left_over(bytes.len() - at));
-        at += 4;
+    for word in bytes.chunks(4) {
+        reached = checksum::feed(reached, words::number_of(word), word.len() as u32);
     }
     reached
-}
-
-// How many of the bytes that are left belong to the next word.
-fn left_over(left: usize) -> u32
-    ensures { result ≡ min 4 left }
-{
-    if left < 4 { left as u32 } else { 4 }
-}
-
-// Do `size` bytes from a place on lie inside so many?
-fn is_inside(place: usize, size: usize, length: usize) -> bool
-    ensures { result ≡ leb (place + size) length }
-{
-    if length < place {
-        return false;
-    }
-    if length - place < size {
-        return false;
-    }
-    true
 }
 
 // What the data of a load feed once they are copied: taken from their place, so that they are taken from where they came only once.
@@ -69,7 +35,7 @@ fn feed_copied(checksum: u32, memory: &[u8], place: usize, bytes: &[u8]) -> u32
     requires { place + length bytes.now ≤ length memory.now → bytes_at memory.now place (length bytes.now) ≡ bytes.now }
     ensures { result ≡ words_fed checksum ((length bytes.now + 3) / 4) bytes.now }
 {
-    if is_inside(place, bytes.len(), memory.len()) {
+    if words::is_inside(memory.len(), place, bytes.len()) {
         let end = place + bytes.len();
         return feed_data(checksum, &memory[place..end]);
     }
@@ -113,10 +79,8 @@ fn fill_words(memory: &mut [u8], place: usize, count: usize, word: u32)
     requires { place + 4 * count ≤ length memory.old }
     ensures { memory.new ≡ filled memory.old place (4 * count) Unit.Four word }
 {
-    let mut i: usize = 0;
-    while i < count {
+    for i in 0..count {
         words::write(memory, place + 4 * i, Unit::Four, word);
-        i += 1;
     }
 }
 
@@ -125,9 +89,7 @@ fn put_low(memory: &mut [u8], place: usize, count: usize, word: u32)
     requires { count ≤ 4 }
     ensures { memory.new ≡ put memory.old place count (byte word) }
 {
-    let mut bytes = [0u8; 4];
-    words::write(&mut bytes, 0, Unit::Four, word);
-    copy(memory, place, &bytes[..count]);
+    copy(memory, place, &word.to_le_bytes()[..count]);
 }
 
 // The pattern's unit again and again: words of whole units, then the low bytes of one more; none past the end.
@@ -138,7 +100,7 @@ pub fn fill_bytes(memory: &mut [u8], place: usize, size: u32, unit: Unit, patter
         return;
     }
     let word = widened(unit, pattern);
-    let n = least(size as usize, memory.len() - place);
+    let n = (size as usize).min(memory.len() - place);
     let whole = n / 4;
     fill_words(memory, place, whole, word);
     put_low(memory, place + 4 * whole, n % 4, word);

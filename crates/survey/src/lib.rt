@@ -5,13 +5,30 @@ ghost use Rattle.std.specs.Prelude.{◌≡◌};
 ghost use Rattle.survey.specs.rules.Images.{ended, absent, image_of, is_opened, set_of, unlike};
 ghost use Rattle.survey.specs.rules.Survey.{begun, is_full, entered_by, latest, line_of, including, totals_of};
 
-use opcodes::Dialect;
+use checking::Report;
+use opcodes::{Dialect, Refusal};
+use std::fmt;
 
 #[derive(Clone, Copy)]
 pub enum Outcome {
     Entered,
     Refused,
     Absent,
+}
+
+impl fmt::Display for Outcome {
+    ghost use Rattle.std.specs.Prelude.{Some};
+    ghost use Rattle.survey.specs.rules.Images.{word_of};
+
+    ghost output = { λ outcome. Some (word_of outcome) };
+
+    fn fmt<W: fmt::Write>(&self, f: &mut fmt::Formatter<W>) -> fmt::Result {
+        match self {
+            Outcome::Entered => f.write_str("entered"),
+            Outcome::Refused => f.write_str("refused"),
+            Outcome::Absent => f.write_str("absent"),
+        }
+    }
 }
 
 // A named image: its outcome, and the option word that its run left.
@@ -62,23 +79,21 @@ impl Image {
     {
         let opened = checking::open(Dialect::Am17xx, bytes);
         let mut memory = [0u8; 4096];
-        let called = flash_runs::run_plain(opened, &mut memory, bytes);
-        let last = called.refusal;
+        let report = Report::from(flash_runs::run_plain(opened, &mut memory, bytes));
         Image {
-            outcome: ended(last.code() == 0),
+            outcome: ended(report.end),
             word: words::word_at(&memory, 0),
         }
     }
 }
 
-// The outcome of an opened image.
-fn ended(entered: bool) -> Outcome
-    ensures { result ≡ ended entered }
+// The outcome of an opened image, by how its run ended.
+fn ended(end: Result<u32, Refusal>) -> Outcome
+    ensures { result ≡ ended end }
 {
-    if entered {
-        Outcome::Entered
-    } else {
-        Outcome::Refused
+    match end {
+        Ok(_) => Outcome::Entered,
+        Err(_) => Outcome::Refused,
     }
 }
 
@@ -86,43 +101,38 @@ fn ended(entered: bool) -> Outcome
 fn is_opened(image: Image) -> bool
     ensures { result ≡ is_opened image }
 {
-    let outcome = image.outcome;
-    match outcome {
-        Outcome::Entered => true,
-        Outcome::Refused => true,
-        Outcome::Absent => false,
-    }
+    !matches!(image.outcome, Outcome::Absent)
 }
 
 // The one bits of its option word.
+#[tactic(auto, unfolding(crate::specs::rules::Images::set_of, words::specs::rules::Choice::pick))]
 fn set_of(image: Image) -> u32
     ensures { result ≡ set_of image }
 {
     if is_opened(image) {
-        u32::count_ones(image.word)
+        image.word.count_ones()
     } else {
         0
     }
 }
 
 // The bits unlike in the option words of an image and of the last one opened.
+#[tactic(auto, unfolding(crate::specs::rules::Images::unlike, words::specs::rules::Choice::pick))]
 fn unlike(last: Image, image: Image) -> u32
     ensures { result ≡ unlike last image }
 {
-    if is_opened(last) {
-        if is_opened(image) {
-            return u32::count_ones(last.word ^ image.word);
-        }
+    if is_opened(last) && is_opened(image) {
+        (last.word ^ image.word).count_ones()
+    } else {
+        0
     }
-    0
 }
 
 // What an image adds to those entered.
 fn entered_by(image: Image) -> u32
     ensures { result ≡ entered_by image }
 {
-    let outcome = image.outcome;
-    match outcome {
+    match image.outcome {
         Outcome::Entered => 1,
         Outcome::Refused => 0,
         Outcome::Absent => 0,
@@ -130,6 +140,7 @@ fn entered_by(image: Image) -> u32
 }
 
 // The last one opened, with an image after it: an absent one is skipped.
+#[tactic(auto, unfolding(crate::specs::rules::Survey::latest, words::specs::rules::Choice::pick))]
 fn latest(last: Image, image: Image) -> Image
     ensures { result ≡ latest last image }
 {
@@ -159,29 +170,28 @@ impl Survey {
     }
 
     // The line of the next image.
+    #[tactic(auto, unfolding(crate::specs::rules::Survey::line_of))]
     pub fn line(self, image: Image) -> SurveyLine
         ensures { result ≡ line_of self image }
     {
-        let outcome = image.outcome;
-        let last = self.last;
         SurveyLine {
-            image: std::num::wrapping_add_u32(self.written, 1),
-            outcome,
+            image: self.written.wrapping_add(1),
+            outcome: image.outcome,
             set: set_of(image),
-            differ: unlike(last, image),
+            differ: unlike(self.last, image),
         }
     }
 
     // The survey once that line is written.
+    #[tactic(auto, unfolding(crate::specs::rules::Survey::including))]
     pub fn including(self, image: Image) -> Survey
         ensures { result ≡ including self image }
     {
-        let last = self.last;
         Survey {
-            written: std::num::wrapping_add_u32(self.written, 1),
-            entered: std::num::wrapping_add_u32(self.entered, entered_by(image)),
-            differ: std::num::wrapping_add_u32(self.differ, unlike(last, image)),
-            last: latest(last, image),
+            written: self.written.wrapping_add(1),
+            entered: self.entered.wrapping_add(entered_by(image)),
+            differ: self.differ.wrapping_add(unlike(self.last, image)),
+            last: latest(self.last, image),
         }
     }
 

@@ -1,5 +1,6 @@
 -- A granted range lies inside the lent memory, an address outside every window is granted nothing, and the windows that a session
 -- keeps have the map's own sum. Each goes window by window.
+use Rattle.std.specs.Prelude.{Some}
 use mathlib.Core.Path.{◌≡◌, sym, ◌∙◌}
 use mathlib.Core.List.{List, [], ◌∷◌}
 use Prim.Native.Nat.{ℕ, ◌+◌, ◌-◌, ◌≤◌, ◌<◌}
@@ -7,7 +8,6 @@ use native.Mathlib.Omega.{arith}
 use Rattle.words.proofs.Choice.{chosen, passed, by_test}
 use Rattle.windows.specs.declared.Window.{Window}
 use Rattle.windows.specs.declared.Right.{Right}
-use Rattle.windows.specs.declared.Place.TheVariants.{At}
 use Rattle.windows.specs.rules.Window.{end_of, chain_grants, place_from, place_of, sum_of}
 use Rattle.windows.proofs.Chains.{carried, chained}
 
@@ -17,7 +17,7 @@ record Inside (p n base : ℕ) (ws : List Window) : Type 0 where
   pub start : p < base + sum_of ws
 
 placed_from : (ws : List Window) (right : Right) (a n base p : ℕ)
-    → place_from base ws right a n ≡ At p → Inside p n base ws
+    → place_from base ws right a n ≡ Some p → Inside p n base ws
 unfolding place_from sum_of
 placed_from [] right a n base p e = let z : ◌≡◌ {A = ℕ} 0 1 = cc in omega arith
 placed_from (w ∷ ws) right a n base p e =
@@ -26,7 +26,7 @@ placed_from (w ∷ ws) right a n base p e =
     let c = chained w ws right a n chain in
     let h = c.address_held in
     let reach = carried ws right (end_of w) (a + n) c.others in
-    let place : At (base + (a - w.first)) ≡ At p = sym (chosen _ _ _ chain) ∙ e in
+    let place : Some (base + (a - w.first)) ≡ Some p = sym (chosen _ _ _ chain) ∙ e in
     let at : base + (a - w.first) ≡ p = cc in
     record { last = omega arith; start = omega arith })
     (λ failed.
@@ -34,6 +34,6 @@ placed_from (w ∷ ws) right a n base p e =
     record { last = omega arith; start = omega arith })
 
 -- a granted range lies inside the memory
-pub placed_inside : (ws : List Window) (right : Right) (a n p : ℕ) → place_of ws right a n ≡ At p → p + n ≤ sum_of ws
+pub placed_inside : (ws : List Window) (right : Right) (a n p : ℕ) → place_of ws right a n ≡ Some p → p + n ≤ sum_of ws
 unfolding place_of
 placed_inside ws right a n p e = omega (arith, placed_from ws right a n 0 p e)

@@ -69,12 +69,6 @@ sound w e =
       known_rights = leb-true _ _ whole.1;
     }
 
--- where length and end are right, the rights decide
-pub sound_by_rights : (w : Window) → 0 < w.length → end_of w ≤ 2 ^ 32 → 1 ≤ w.rights
-    → leb w.rights 7 ≡ sound_window w
-unfolding sound_window
-sound_by_rights w long reach some = simp (lt-ltb _ _ long, le-leb _ _ reach, le-leb _ _ some)
-
 -- what a good map is
 pub record Good (count : ℕ) (ws : List Window) : Type 0 where
   pub some_window : 1 ≤ count
@@ -94,10 +88,3 @@ good count ws e =
       in_order = front.1;
       small = leb-true _ _ whole.1;
     }
-
--- where count and order are right, the sum decides
-pub good_by_sum : (count : ℕ) (ws : List Window) → 1 ≤ count → count ≤ 8
-    → sound_and_rising 0 (take count ws) ≡ true
-    → leb (sum_of (take count ws)) 65536 ≡ good_map count ws
-unfolding good_map
-good_by_sum count ws some few order = simp (le-leb _ _ some, le-leb _ _ few, order)

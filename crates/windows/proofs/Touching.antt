@@ -1,5 +1,6 @@
 -- The laws of touching windows on a good map. Addresses rise with the windows, so an address has one window and what holds the address at a
 -- window's end begins there; the lent memory has the windows' bytes in the same order, so a chain is one stretch of it.
+use Rattle.std.specs.Prelude.{Option, Some, None, is_some}
 use mathlib.Core.Path.{◌≡◌, refl, sym, ap, subst, ◌∙◌}
 use mathlib.Core.Bool.{Bool, true, false, or-true, true≢false}
 use mathlib.Core.List.{List, [], ◌∷◌, ◌++◌}
@@ -11,10 +12,8 @@ use borrow.Author.Tests.{ltb-true, ltb-false, leb-true, leb-false, lt-ltb, le-le
 use Rattle.words.proofs.Choice.{chosen, passed, by_test, both, refuted}
 use Rattle.windows.specs.declared.Window.{Window}
 use Rattle.windows.specs.declared.Right.{Right}
-use Rattle.windows.specs.declared.Place.{Place}
-use Rattle.windows.specs.declared.Place.TheVariants.{At, Nowhere}
 use Rattle.windows.specs.rules.Map.{all_sound, rising, good_map, zero_window, kept_of}
-use Rattle.windows.specs.claims.Touching.{has_place, held_by_some, one_grants, some_begins, OnTouching, TouchingWindows}
+use Rattle.windows.specs.claims.Touching.{held_by_some, one_grants, some_begins, OnTouching, TouchingWindows}
 use Rattle.windows.specs.rules.Window.{has_right, end_of, inside, holds_address, grants_range, carries_on, chain_grants, place_from, place_of, sum_of, some}
 use Rattle.windows.specs.rules.Window.{inside_some}
 use Rattle.windows.proofs.Chains.{either, carries_here, by_next, chained, chain_here, chain_not_held}
@@ -108,7 +107,7 @@ carries_hold (w ∷ ws) right from end x e above below =
     some_later (λ v. holds_address v right x) w ws (carries_hold ws right (end_of w) end x on.rest (ltb-false x (end_of w) f) below)))
 
 -- each address of a range that has a place lies in a window with the right
-placed_hold : (ws : List Window) (right : Right) (a n base p x : ℕ) → place_from base ws right a n ≡ At p → a ≤ x → x < a + n
+placed_hold : (ws : List Window) (right : Right) (a n base p x : ℕ) → place_from base ws right a n ≡ Some p → a ≤ x → x < a + n
     → held_by_some ws right x ≡ true
 unfolding place_from
 placed_hold [] right a n base p x e above below = absurd (let z : ◌≡◌ {A = ℕ} 0 1 = cc in omega arith)
@@ -156,13 +155,13 @@ carries_where_held (w ∷ ws) right from end r above covered =
 
 -- so the range has a place
 place_where_held : (ws : List Window) (right : Right) (a n base : ℕ) → Rises ws → 0 < n
-    → ((x : ℕ) → a ≤ x → x < a + n → held_by_some ws right x ≡ true) → has_place (place_from base ws right a n) ≡ true
+    → ((x : ℕ) → a ≤ x → x < a + n → held_by_some ws right x ≡ true) → is_some (place_from base ws right a n) ≡ true
 unfolding place_from some
 place_where_held [] right a n base r some_byte covered = absurd (true≢false (sym (covered a (omega arith) (omega arith))))
 place_where_held (w ∷ ws) right a n base r some_byte covered =
-    by_test (chain_grants w ws right a n) (λ t. ap has_place (chosen _ _ _ t))
+    by_test (chain_grants w ws right a n) (λ t. ap is_some (chosen _ _ _ t))
     (λ f.
-    ap has_place (passed (chain_grants w ws right a n) _ _ f)
+    ap is_some (passed (chain_grants w ws right a n) _ _ f)
     ∙ by_some (λ v. holds_address v right a) w ws (covered a (omega arith) (omega arith))
     (λ here.
     let h = held w right a here in
@@ -190,7 +189,7 @@ carried_first (v ∷ before) after w right from end x r e above below here =
 
 -- each byte of a range that has a place lies where its window has it
 placed_byte : (before after : List Window) (w : Window) (right : Right) (a n base p x : ℕ) → Rises (before ++ (w ∷ after))
-    → place_from base (before ++ (w ∷ after)) right a n ≡ At p → a ≤ x → x < a + n → inside w x ≡ true
+    → place_from base (before ++ (w ∷ after)) right a n ≡ Some p → a ≤ x → x < a + n → inside w x ≡ true
     → p + (x - a) ≡ base + sum_of before + (x - w.first)
 unfolding place_from sum_of
 placed_byte [] after w right a n base p x r e above below here =
@@ -198,7 +197,7 @@ placed_byte [] after w right a n base p x r e above below here =
     by_test (chain_grants w after right a n)
     (λ t.
     let h = (chained w after right a n t).address_held in
-    let found : At (base + (a - w.first)) ≡ At p = sym (chosen _ _ _ t) ∙ e in
+    let found : Some (base + (a - w.first)) ≡ Some p = sym (chosen _ _ _ t) ∙ e in
     let place : base + (a - w.first) ≡ p = cc in
     omega arith)
     (λ f.
@@ -213,7 +212,7 @@ placed_byte (v ∷ before) after w right a n base p x r e above below here =
     let c = chained v (before ++ (w ∷ after)) right a n t in
     let h = c.address_held in
     let first = carried_first before after w right (end_of v) (a + n) x r.1 c.others past below here in
-    let found : At (base + (a - v.first)) ≡ At p = sym (chosen _ _ _ t) ∙ e in
+    let found : Some (base + (a - v.first)) ≡ Some p = sym (chosen _ _ _ t) ∙ e in
     let place : base + (a - v.first) ≡ p = cc in
     omega arith)
     (λ f.
@@ -224,7 +223,7 @@ placed_byte (v ∷ before) after w right a n base p x r e above below here =
     ))
 
 -- size 0 asks one window
-none_granted : (ws : List Window) (right : Right) (a base : ℕ) → has_place (place_from base ws right a 0) ≡ one_grants ws right a 0
+none_granted : (ws : List Window) (right : Right) (a base : ℕ) → is_some (place_from base ws right a 0) ≡ one_grants ws right a 0
 unfolding place_from some grants_range
 none_granted [] right a base = refl
 none_granted (w ∷ ws) right a base =
@@ -232,8 +231,8 @@ none_granted (w ∷ ws) right a base =
     (λ t.
     let h = held w right a t in
     let on = carries_here ws right (end_of w) (a + 0) (omega arith) in
-    ap has_place (chosen _ _ _ (chain_here w ws right a 0 t on)) ∙ rw (t, le-leb (a + 0) (end_of w) (omega arith)) refl)
-    (λ f. ap has_place (passed (chain_grants w ws right a 0) _ _ (chain_not_held w ws right a 0 f)) ∙ none_granted ws right a (base + w.length) ∙ rw f refl)
+    ap is_some (chosen _ _ _ (chain_here w ws right a 0 t on)) ∙ rw (t, le-leb (a + 0) (end_of w) (omega arith)) refl)
+    (λ f. ap is_some (passed (chain_grants w ws right a 0) _ _ (chain_not_held w ws right a 0 f)) ∙ none_granted ws right a (base + w.length) ∙ rw f refl)
 
 -- where an address is inside some of the windows and none holds a lower one, a window begins there
 begins_there : (ws : List Window) (e : ℕ) → ((x : ℕ) → inside_some ws x ≡ true → e ≤ x) → inside_some ws e ≡ true → some_begins ws e ≡ true
@@ -264,27 +263,27 @@ touching_begins (v ∷ before) after w r long there =
 
 -- a range that one window grants lies where that window has it
 one_place : (before after : List Window) (w : Window) (right : Right) (a n base : ℕ) → Rises (before ++ (w ∷ after))
-    → grants_range w right a n ≡ true → place_from base (before ++ (w ∷ after)) right a n ≡ At (base + sum_of before + (a - w.first))
+    → grants_range w right a n ≡ true → place_from base (before ++ (w ∷ after)) right a n ≡ Some (base + sum_of before + (a - w.first))
 unfolding place_from sum_of
 one_place [] after w right a n base r e =
     let g = granted w right a n e in
     let on = carries_here after right (end_of w) (a + n) g.to_end in
-    chosen _ _ _ (chain_here w after right a n g.address_held on) ∙ ap At (omega arith)
+    chosen _ _ _ (chain_here w after right a n g.address_held on) ∙ ap Some (omega arith)
 one_place (v ∷ before) after w right a n base r e =
     let there = (granted w right a n e).address_held in
     let past = (r.0 a (some_at (λ u. inside u a) before after w (held_inside right a w there))).1 in
     let not-here = sym (refuted (holds_address v right a) (λ h. omega (arith, held v right a h))) in
     passed (chain_grants v (before ++ (w ∷ after)) right a n) _ _ (chain_not_held v (before ++ (w ∷ after)) right a n not-here)
-    ∙ one_place before after w right a n (base + v.length) r.1 e ∙ ap At (omega arith)
+    ∙ one_place before after w right a n (base + v.length) r.1 e ∙ ap Some (omega arith)
 
 -- a place that is there, and one that is not
-place-of : (found : Place) → has_place found ≡ true → (p : ℕ) × (found ≡ At p)
-place-of (At p) e = (p, refl)
-place-of Nowhere e = absurd (true≢false (sym e))
+place-of : (found : Option ℕ) → is_some found ≡ true → (p : ℕ) × (found ≡ Some p)
+place-of (Some p) e = (p, refl)
+place-of None e = absurd (true≢false (sym e))
 
-no_place : (found : Place) → ((p : ℕ) → found ≡ At p → ⊥) → found ≡ Nowhere
-no_place (At p) never = absurd (never p refl)
-no_place Nowhere never = refl
+no_place : (found : Option ℕ) → ((p : ℕ) → found ≡ Some p → ⊥) → found ≡ None
+no_place (Some p) never = absurd (never p refl)
+no_place None never = refl
 
 on_rising : (ws : List Window) → Rises ws → OnTouching ws
 unfolding place_of
@@ -300,7 +299,7 @@ on_rising ws r =
           omega (
             arith,
             placed_byte before after w right a n 0 place (a + i) (subst Rises stands r)
-                (subst (λ (l : List Window). place_from 0 l right a n ≡ At place) stands e)
+                (subst (λ (l : List Window). place_from 0 l right a n ≡ Some place) stands e)
                 (omega arith) (omega arith) here,
           );
       size_zero = λ right a. none_granted ws right a 0;
@@ -315,7 +314,7 @@ on_rising ws r =
           in
           true≢false (sym begins ∙ subst (λ (l : List Window). some_begins l (end_of w) ≡ false) stands untouched));
       one_window = λ before after w stands right a n e.
-          ap (λ (l : List Window). place_from 0 l right a n) stands ∙ one_place before after w right a n 0 (subst Rises stands r) e ∙ ap At (omega arith);
+          ap (λ (l : List Window). place_from 0 l right a n) stands ∙ one_place before after w right a n 0 (subst Rises stands r) e ∙ ap Some (omega arith);
     }
 
 pub touching_windows : TouchingWindows

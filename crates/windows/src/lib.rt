@@ -1,32 +1,33 @@
 // Windows: what a map grants, which maps are good, and where a granted range lies in the lent memory.
 #![tactic(auto)]
 
-ghost use Rattle.std.specs.Prelude.{◌≡◌, ◌≤◌, ◌<◌, leb, take, drop, set};
-ghost use Rattle.words.specs.rules.Choice.{pick};
-ghost use Rattle.windows.specs.rules.Window.{has_right, end_of, holds_address, grants_range, carries_on, place_of, sum_of};
-ghost use Rattle.windows.specs.rules.Map.{sound_window, sound_and_rising, good_map, kept_of, zero_window};
+ghost use Rattle.std.specs.Prelude.{◌≡◌, ◌≤◌, length};
+ghost use Rattle.windows.specs.rules.Window.{has_right, end_of, inside, holds_address, grants_range, carries_on, place_of, sum_of};
+ghost use Rattle.windows.specs.rules.Map.{sound_window, sound_and_rising, good_map, kept_of};
 
 // A stretch of addresses, and the sum of the numbers of its rights.
-#[derive(Clone, Copy)]
+#[derive(Clone, Copy, Debug, PartialEq, Eq)]
 pub struct Window {
     pub first: u32,
     pub length: u32,
     pub rights: u32,
 }
 
+impl Window {
+    // A window past a map's count: all zero.
+    pub const NONE: Window = Window {
+        first: 0,
+        length: 0,
+        rights: 0,
+    };
+}
+
 // What a window may be used for.
-#[derive(Clone, Copy)]
+#[derive(Clone, Copy, Debug, PartialEq, Eq)]
 pub enum Right {
     Load,
     Set,
     Entry,
-}
-
-// Where a range lies in the lent memory.
-#[derive(Clone, Copy)]
-pub enum Place {
-    At(usize),
-    Nowhere,
 }
 
 // Has the window the right?
@@ -47,27 +48,27 @@ fn end_of(window: Window) -> u64
     (window.first as u64) + (window.length as u64)
 }
 
+// Is the address inside the window?
+#[tactic(auto, unfolding(crate::specs::rules::Window::inside))]
+fn is_inside(window: Window, address: u32) -> bool
+    ensures { result ≡ inside window address }
+{
+    window.first <= address && (address as u64) < end_of(window)
+}
+
 // Has the window the right, and the address inside it?
 fn holds(window: Window, right: Right, address: u32) -> bool
     ensures { result ≡ holds_address window right address }
 {
-    if address < window.first {
-        return false;
-    }
-    if end_of(window) <= (address as u64) {
-        return false;
-    }
-    has(window, right)
+    has(window, right) && is_inside(window, address)
 }
 
 // Does the window alone grant the right to a range of size bytes at an address?
+#[tactic(auto, unfolding(crate::specs::rules::Window::grants_range))]
 pub fn grants(window: Window, right: Right, address: u32, size: u32) -> bool
     ensures { result ≡ grants_range window right address size }
 {
-    if holds(window, right, address) {
-        return (address as u64) + (size as u64) <= end_of(window);
-    }
-    false
+    holds(window, right, address) && (address as u64) + (size as u64) <= end_of(window)
 }
 
 // The most windows of a map, and the most bytes of its memory.
@@ -75,103 +76,70 @@ pub const MOST_WINDOWS: usize = 8;
 
 pub const MOST_MEMORY: usize = 65536;
 
-// Do the windows from an index on carry on from an address to an end? Each begins where the one before ends, and has the right.
-fn carries_on(windows: [Window; 8], next: usize, right: Right, from: u64, end: u64) -> bool
-    ensures { result ≡ carries_on (drop next windows) right from end }
+// Do windows carry on from an address to an end? Each begins where the one before ends, and has the right.
+fn carries_on(windows: &[Window], right: Right, from: u64, end: u64) -> bool
+    ensures { result ≡ carries_on windows.now right from end }
 {
     let mut reached = from;
-    let mut i = next;
-    while reached < end {
-        if MOST_WINDOWS <= i {
+    for window in windows {
+        if end <= reached {
+            return true;
+        }
+        if (window.first as u64) != reached || !has(*window, right) {
             return false;
         }
-        let window = windows[i];
-        if (window.first as u64) != reached {
-            return false;
-        }
-        if !has(window, right) {
-            return false;
-        }
-        reached = end_of(window);
-        i = i + 1;
+        reached = end_of(*window);
     }
-    true
+    end <= reached
 }
 
-// Where a range lies, by the first chain of windows that grants it. The first window is asked by itself, before the others are gone through.
-pub fn locate(windows: [Window; 8], right: Right, address: u32, size: u32) -> Place
+// Where a range lies in the lent memory, by the first chain of windows that grants it, if one does. The first window is asked by itself, before the others are
+// gone through.
+pub fn locate(windows: [Window; 8], right: Right, address: u32, size: u32) -> Option<usize>
     ensures { result ≡ place_of windows right address size }
 {
     let first = windows[0];
     if grants(first, right, address, size) {
-        return Place::At((address - first.first) as usize);
+        return Some((address - first.first) as usize);
     }
     go_through(windows, right, address, size)
 }
 
 // The same, window by window. Most ranges end inside the window that holds their address.
-fn go_through(windows: [Window; 8], right: Right, address: u32, size: u32) -> Place
+fn go_through(windows: [Window; 8], right: Right, address: u32, size: u32) -> Option<usize>
     ensures { result ≡ place_of windows right address size }
 {
     let end = (address as u64) + (size as u64);
     let mut base: usize = 0;
-    let mut i: usize = 0;
-    while i < MOST_WINDOWS {
-        let window = windows[i];
-        if holds(window, right, address) {
+    for (i, window) in windows.iter().enumerate() {
+        if holds(*window, right, address) {
             let place = base + ((address - window.first) as usize);
-            let reached = end_of(window);
+            let reached = end_of(*window);
             if end <= reached {
-                return Place::At(place);
+                return Some(place);
             }
-            if carries_on(windows, i + 1, right, reached, end) {
-                return Place::At(place);
+            if carries_on(&windows[i + 1..], right, reached, end) {
+                return Some(place);
             }
         }
-        base = base + (window.length as usize);
-        i = i + 1;
+        base += window.length as usize;
     }
-    Place::Nowhere
+    None
 }
 
-// How many bytes the first count windows have together.
-fn sum_first(count: usize, windows: [Window; 8]) -> usize
-    requires { count ≤ 8 }
-    ensures { result ≡ sum_of (take count windows) }
+// How many bytes some windows have together.
+fn sum_some(windows: &[Window]) -> usize
+    requires { length windows.now ≤ 8 }
+    ensures { result ≡ sum_of windows.now }
 {
-    let mut total: usize = 0;
-    let mut i: usize = 0;
-    while i < count {
-        let window = windows[i];
-        total = total + (window.length as usize);
-        i = i + 1;
-    }
-    total
+    windows.iter().map(|window| window.length as usize).sum()
 }
 
 // How many bytes all of them have: the length of the lent memory.
 pub fn sum(windows: [Window; 8]) -> usize
     ensures { result ≡ sum_of windows }
 {
-    sum_first(MOST_WINDOWS, windows)
-}
-
-// The windows, with one that is past the first count made all zero.
-fn cleared(count: usize, i: usize, windows: [Window; 8]) -> [Window; 8]
-    requires { i < 8 }
-    ensures { result ≡ pick (leb count i) (set windows i zero_window) windows }
-{
-    let empty = Window {
-        first: 0,
-        length: 0,
-        rights: 0,
-    };
-    if count <= i {
-        let mut left = windows;
-        left[i] = empty;
-        return left;
-    }
-    windows
+    sum_some(&windows)
 }
 
 // The first count windows; those past them become all zero. Each is looked at, so that the compiler may choose it field by field.
@@ -179,65 +147,45 @@ pub fn kept(count: usize, windows: [Window; 8]) -> [Window; 8]
     ensures { result ≡ kept_of count windows }
 {
     let mut left = windows;
-    let mut i: usize = 0;
-    while i < MOST_WINDOWS {
-        let next = cleared(count, i, left);
-        left = next;
-        i = i + 1;
+    for i in 0..MOST_WINDOWS {
+        if count <= i {
+            left[i] = Window::NONE;
+        }
     }
     left
 }
 
 // Is the window sound by itself?
+#[tactic(auto, unfolding(crate::specs::rules::Map::sound_window))]
 fn is_sound(window: Window) -> bool
     ensures { result ≡ sound_window window }
 {
-    if window.length == 0 {
-        return false;
-    }
-    if 4294967296 < (window.first as u64) + (window.length as u64) {
-        return false;
-    }
-    if window.rights < 1 {
-        return false;
-    }
-    window.rights <= 7
+    0 < window.length && end_of(window) <= 4294967296 && 1 <= window.rights && window.rights <= 7
 }
 
-// Are the first count windows sound, and do they rise with no overlap?
-fn sound_and_rising(count: usize, windows: [Window; 8]) -> bool
-    requires { count ≤ 8 }
-    ensures { result ≡ sound_and_rising 0 (take count windows) }
+// Are windows sound, and do they rise with no overlap?
+#[tactic(auto, unfolding(crate::specs::rules::Map::all_sound, crate::specs::rules::Map::rising))]
+fn sound_and_rising(windows: &[Window]) -> bool
+    ensures { result ≡ sound_and_rising 0 windows.now }
 {
     let mut end: u64 = 0;
-    let mut i: usize = 0;
-    while i < count {
-        let window = windows[i];
-        let first = window.first as u64;
-        if first < end {
+    for window in windows {
+        if (window.first as u64) < end || !is_sound(*window) {
             return false;
         }
-        if !is_sound(window) {
-            return false;
-        }
-        end = first + (window.length as u64);
-        i = i + 1;
+        end = end_of(*window);
     }
     true
 }
 
 // Is the map of the first count windows good?
+#[tactic(auto, unfolding(crate::specs::rules::Map::good_map))]
 pub fn is_good(count: usize, windows: [Window; 8]) -> bool
     ensures { result ≡ good_map count windows }
 {
-    if count < 1 {
+    if count < 1 || MOST_WINDOWS < count {
         return false;
     }
-    if MOST_WINDOWS < count {
-        return false;
-    }
-    if sound_and_rising(count, windows) {
-        return sum_first(count, windows) <= MOST_MEMORY;
-    }
-    false
+    let first = &windows[..count];
+    sound_and_rising(first) && sum_some(first) <= MOST_MEMORY
 }

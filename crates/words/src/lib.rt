@@ -1,12 +1,12 @@
 // Bytes, bits, little-endian numbers, and units of 1, 2 and 4 bytes at a place of a slice.
 #![tactic(auto)]
 
-ghost use Rattle.std.specs.Prelude.{◌≡◌, [], ◌∷◌, true, ◌+◌, ◌≤◌, ◌<◌, ◌^◌, length, take, get_or, set};
+ghost use Rattle.std.specs.Prelude.{◌≡◌, [], ◌∷◌, true, ◌+◌, ◌≤◌, ◌<◌, ◌^◌, leb, length, take, get_or, set};
 ghost use Rattle.words.specs.rules.Bits.{bit, join, with_field};
 ghost use Rattle.words.specs.rules.Bytes.{byte, number, put, size_of, fits, field_fits, written, field_written, word_at};
 
 // A unit of 1, 2 or 4 bytes.
-#[derive(Clone, Copy)]
+#[derive(Clone, Copy, Debug, PartialEq, Eq)]
 pub enum Unit {
     One,
     Two,
@@ -48,7 +48,7 @@ pub fn byte_of(value: u32, place: u32) -> u8
 fn byte_at(s: &[u8], place: usize) -> u8
     ensures { result ≡ get_or s.now place 0 }
 {
-    if place < s.len() { s[place] } else { 0 }
+    s.get(place).copied().unwrap_or(0)
 }
 
 // The number that four bytes make.
@@ -110,12 +110,17 @@ fn put_bytes(m: &mut [u8], at: usize, n: usize, value: u32)
     ensures { m.new ≡ put m.old at n (byte value) }
 {
     let mut rest = value;
-    let mut i: usize = 0;
-    while i < n {
+    for i in 0..n {
         m[at + i] = (rest % 256) as u8;
-        rest = rest / 256;
-        i = i + 1;
+        rest /= 256;
     }
+}
+
+// Do so many bytes from a place on lie inside a length?
+pub fn is_inside(length: usize, at: usize, size: usize) -> bool
+    ensures { result ≡ leb (at + size) length }
+{
+    size <= length && at <= length - size
 }
 
 // Writes the low bytes of a value as a unit, if it fits.
@@ -124,10 +129,7 @@ pub fn write(m: &mut [u8], at: usize, unit: Unit, value: u32) -> bool
     ensures m_after { m.new ≡ written m.old at unit value }
 {
     let n = unit.size();
-    if m.len() < n {
-        return false;
-    }
-    if m.len() - n < at {
+    if !is_inside(m.len(), at, n) {
         return false;
     }
     put_bytes(m, at, n, value);
@@ -140,17 +142,11 @@ pub fn write_field(m: &mut [u8], at: usize, unit: Unit, start: u32, width: u32, 
     ensures m_after { m.new ≡ field_written m.old at unit start width field }
 {
     let n = unit.size();
-    if m.len() < n {
-        return false;
-    }
-    if m.len() - n < at {
+    if !is_inside(m.len(), at, n) {
         return false;
     }
     let bits = 8 * (n as u32);
-    if bits < start {
-        return false;
-    }
-    if bits - start < width {
+    if bits < start || bits - start < width {
         return false;
     }
     let old = number_of(&m[at..at + n]);

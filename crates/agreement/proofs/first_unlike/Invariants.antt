@@ -1,11 +1,7 @@
--- What each turn keeps.
-use Prim.Native.Nat.{◌+◌, ◌*◌}
-use mathlib.Core.Path.{◌≡◌}
+-- What each turn keeps: the first of the words that are left is the first of all.
+use Rattle.std.proofs.Common.{◌≡◌, ◌-◌, ◌*◌}
 use Rattle.agreement.specs.rules.Differing.{first_unlike}
 use Rattle.agreement.proofs.first_unlike.Given as goal
 
-abbrev pub invariant-loop-left : goal.invariant-loop-left
-invariant-loop-left l = (l.place + 4 * l.left ≡ 4096) × (first_unlike l.left l.place l.flash l.line ≡ first_unlike 1024 0 l.flash l.line)
-
-abbrev pub decreases-loop-left : goal.decreases-loop-left
-decreases-loop-left l = l.left
+abbrev pub invariant-loop-word : goal.invariant-loop-word
+invariant-loop-word l = first_unlike (1024 - l.word) (4 * l.word) l.flash l.line ≡ first_unlike 1024 0 l.flash l.line

@@ -3,7 +3,6 @@
 use Rattle.std.specs.Prelude.{ℕ, ◌+◌, List, [], ◌∷◌, eqb}
 use Rattle.words.specs.rules.Choice.{pick}
 use Rattle.windows.specs.declared.Window.{Window}
-use Rattle.opcodes.specs.rules.Answers.{code_of}
 use Rattle.opcodes.specs.declared.Dialect.{Dialect}
 use Rattle.opcodes.specs.declared.Event.{Event}
 use Rattle.event_room.specs.rules.Room.{place_after}
@@ -38,7 +37,7 @@ by_line bus dialect image limit = exchanged (meeting bus dialect 1 windows clear
 
 -- what is told of a run by its last answer, some bytes of a room holding its events
 abbrev pub end_of : Called → ℕ → FlashEnd
-end_of a told = record { code = code_of a.refusal; at = a.at; retries = a.session.retries; event = a.event; told = told }
+end_of a told = record { refusal = a.refusal; at = a.at; retries = a.session.retries; event = a.event; told = told }
 
 -- the words of the window
 abbrev pub window_words : ℕ

@@ -4,7 +4,7 @@ use Rattle.survey.specs.rules.Survey.{is_full}
 use Rattle.survey.proofs.Ends.{one_fewer}
 use Rattle.ais_survey.proofs.main.Goals as goal
 
-pub loop-list-smaller : goal.loop-list-smaller
-loop-list-smaller c =
-    let more : is_full c.loop-list.survey ≡ false = search rules in
-    rw c.including-survey.ensures (one_fewer c.loop-list.survey c.image_named-image.result more)
+pub loop-name_room-smaller : goal.loop-name_room-smaller
+loop-name_room-smaller c =
+    let more : is_full c.loop-name_room.survey ≡ false = search rules in
+    rw c.including-survey.ensures (one_fewer c.loop-name_room.survey c.map_or-image.result more)

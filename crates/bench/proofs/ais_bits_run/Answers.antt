@@ -9,7 +9,7 @@ returns-then-dialect-gt1 c =
     let a = c.args in
     let done =
     noted (run_unknown a.dialect a.map.now a.chosen.now a.memory.now a.numbers.now a.image.now a.limit c.if-dialect-gt1.true)
-    (c.refuse_run.ensures, (refl, refl)) in
+    (c.only_refusal.ensures, (refl, refl)) in
     record { value = done.0; memory_after = done.1.0; numbers_after = done.1.1 }
 
 pub bits_from-requires : goal.bits_from-requires

@@ -1,9 +1,9 @@
--- `bench::ais_dm648_run` meets its contract: the run of a DM648 image, answered by its report.
-use mathlib.Core.Path.{refl, ◌∙◌}
-use Rattle.words.proofs.Choice.{passed}
+-- `bench::ais_dm648_run` meets its contract: the run of the image, answered by its report.
+use Rattle.std.proofs.Common.{ap, ◌∙◌}
+use Rattle.bench.specs.rules.Runs.{reported}
 use Rattle.bench.proofs.ais_dm648_run.Goals as goal
 
 pub returns : goal.returns
 returns c =
     let ran = c.run_image.ensures in
-    record { value = ran.value ∙ passed _ _ _ refl; memory_after = ran.memory_after }
+    record { value = c.report.ensures ∙ ap reported ran.value; memory_after = ran.memory_after }

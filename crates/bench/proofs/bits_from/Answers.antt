@@ -5,7 +5,8 @@ use mathlib.Core.Path.{◌≡◌, refl, sym, ap, ◌∙◌}
 use lib.ListN.{length}
 use Rattle.windows.specs.rules.Window.{sum_of}
 use Rattle.opcodes.specs.rules.Answers.{code_of}
-use Rattle.opcodes.specs.declared.Refusal.{Refusal}
+use Rattle.opcodes.specs.rules.Refusals.{Verdict}
+use Rattle.opcodes.proofs.Verdicts.{some_of, none_of}
 use Rattle.bit_choice.specs.rules.Chosen.{chosen_places}
 use Rattle.flash_runs.specs.rules.Entries.{entries_from}
 use Rattle.bench_sessions.specs.rules.Numbers.{barred}
@@ -14,17 +15,17 @@ use Rattle.bench.proofs.BitRuns.{noted, from_barred, from_run}
 use Rattle.bench.proofs.RunOffsets.{ran_at}
 use Rattle.bench.proofs.bits_from.Goals as goal
 
-pub returns-then-code-ne0 : goal.returns-then-code-ne0
-returns-then-code-ne0 c =
+pub returns-in-Some : goal.returns-in-Some
+returns-in-Some c =
     let a = c.args in
-    let barred-by : c.bar-refusal.result
+    let barred-by : c.bar-barred.result
     ≡ barred a.opened.refusal a.choice (length a.numbers.now) (length a.memory.now) (sum_of a.opened.session.windows) =
-    c.bar-refusal.ensures ∙ ap (barred _ _ _ _) c.sum.ensures in
+    c.bar-barred.ensures ∙ ap (barred _ _ _ _) c.sum.ensures in
     let done =
     noted
     (from_barred a.opened a.choice a.memory.now a.numbers.now a.image.now
-    (λ e. c.if-code-ne0.true (c.code.ensures ∙ ap (λ (q : Refusal). code_of q) barred-by ∙ e)))
-    (c.refuse_run.ensures ∙ ap (λ (q : Refusal). code_of q * 2 ^ 56) barred-by, (refl, refl)) in
+    (λ e. some_of _ c.in-Some.is (ap (λ (q : Verdict). code_of q) barred-by ∙ e)))
+    (c.only_refusal.ensures ∙ ap (λ (q : Verdict). code_of q * 2 ^ 56) (sym c.in-Some.is ∙ barred-by), (refl, refl)) in
     record { value = done.0; memory_after = done.1.0; numbers_after = done.1.1 }
 
 pub report-requires : goal.report-requires
@@ -34,14 +35,14 @@ report-requires c =
 pub returns : goal.returns
 returns c =
     let a = c.args in
-    let barred-by : c.bar-refusal.result
+    let barred-by : c.bar-barred.result
     ≡ barred a.opened.refusal a.choice (length a.numbers.now) (length a.memory.now) (sum_of a.opened.session.windows) =
-    c.bar-refusal.ensures ∙ ap (barred _ _ _ _) c.sum.ensures in
+    c.bar-barred.ensures ∙ ap (barred _ _ _ _) c.sum.ensures in
     let run = c.run_from-ran.ensures in
     let done =
     noted
     (from_run a.opened a.choice a.memory.now a.numbers.now a.image.now
-    (sym (ap (λ (q : Refusal). code_of q) barred-by) ∙ sym c.code.ensures ∙ c.if-code-ne0.false)) (
+    (sym (ap (λ (q : Verdict). code_of q) barred-by) ∙ none_of _ c.in_default.not-Some)) (
       c.report.ensures ∙ ap reported run.called_value,
       (
         run.memory_after,

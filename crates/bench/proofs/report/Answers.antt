@@ -7,4 +7,4 @@ pack-requires c = c.requires
 
 pub returns : goal.returns
 unfolding reported
-returns c = rw c.code.ensures at c.pack.ensures
+returns c = rw c.code_of.ensures at c.pack.ensures

@@ -5,4 +5,4 @@ use Rattle.bench.proofs.report_fetched.Goals as goal
 
 pub returns : goal.returns
 unfolding fetched_report
-returns c = omega (arith, c.code.ensures)
+returns c = omega (arith, c.code_of.ensures)

@@ -3,8 +3,8 @@ use Rattle.std.specs.Prelude.{ℕ, ◌*◌, ◌^◌, not, List, ltb, length}
 use Rattle.words.specs.rules.Choice.{pick}
 use Rattle.windows.specs.rules.Window.{sum_of}
 use Rattle.opcodes.specs.rules.Answers.{accepted, code_of}
-use Rattle.opcodes.specs.declared.Refusal.{Refusal}
-use Rattle.opcodes.specs.declared.Refusal.TheVariants as refusal
+use Rattle.opcodes.specs.rules.Refusals.{Verdict}
+use Rattle.opcodes.specs.rules.Refusals as refusal
 use Rattle.flash_session.specs.rules.Opening.{opened_by, numbering_from}
 use Rattle.flash_session.specs.declared.Opened.{Opened}
 use Rattle.flash_runs.specs.rules.Entries.{entries_from}
@@ -22,7 +22,7 @@ pub record Noted : Type 0 where
   pub numbers : List ℕ
 
 -- refused before the first command, nothing is touched
-abbrev pub unrun : Refusal → List ℕ → List ℕ → Noted
+abbrev pub unrun : Verdict → List ℕ → List ℕ → Noted
 unrun q memory numbers = record { value = code_of q * 2 ^ 56; memory = memory; numbers = numbers }
 
 -- a run from its opening and its choice: 1, 24, 3, 4, 2, else the image is run, the numbers cleared before it

@@ -3,8 +3,8 @@ use Rattle.std.specs.Prelude.{ℕ, ◌+◌, ◌*◌, ◌/◌, ◌%◌, ◌^◌, 
 use Rattle.words.specs.rules.Choice.{pick}
 use Rattle.opcodes.specs.rules.Answers.{code_of}
 use Rattle.opcodes.specs.declared.Event.{Event}
-use Rattle.opcodes.specs.declared.Refusal.{Refusal}
-use Rattle.opcodes.specs.declared.Refusal.TheVariants as refusal
+use Rattle.opcodes.specs.rules.Refusals.{Verdict}
+use Rattle.opcodes.specs.rules.Refusals as refusal
 use Rattle.event_room.specs.rules.Room.{place_after, room_after}
 use Rattle.flash_session.specs.rules.Opening.{opened_by}
 use Rattle.flash_session.specs.declared.Opened.{Opened}
@@ -25,7 +25,7 @@ unfoldable pub told_value : ℕ → ℕ → ℕ
 told_value code bytes = code * 2 ^ 56 + bytes / 8 % 2 ^ 56
 
 -- refused before the first command, nothing is touched
-abbrev pub unrun : Refusal → List ℕ → List ℕ → SessionOutcome
+abbrev pub unrun : Verdict → List ℕ → List ℕ → SessionOutcome
 unrun q memory room = outcome (code_of q * 2 ^ 56) memory room
 
 -- what is left with these events told in the room
@@ -45,12 +45,12 @@ flash_events dialect map memory image limit room =
 
 -- what a talk comes to, its events told
 abbrev pub talk_told : Talk → List ℕ → SessionOutcome
-talk_told t room = telling t.host_refused t.events t.loader.memory room
+talk_told t room = telling (code_of t.host_refused) t.events t.loader.memory room
 
 -- an exchange: 19 for a line or a dialect, 23 for the room, 1 for the map, 2 for the memory, else as the host ends
 unfoldable pub host_events : ℕ → ℕ → List ℕ → List ℕ → List ℕ → ℕ → ℕ → ℕ → List ℕ → SessionOutcome
 host_events line dialect map memory image tries limit pings room =
-    let q : Refusal = exchange_refused line dialect map (length memory) in
+    let q : Verdict = exchange_refused line dialect map (length memory) in
     pick (not (are_named line dialect)) (unrun refusal.Call memory room)
     (pick (is_short (length room) limit (length image)) (unrun refusal.Room memory room)
     (pick (eqb (code_of q) 0)

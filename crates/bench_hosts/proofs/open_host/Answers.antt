@@ -21,5 +21,5 @@ returns c =
     let a = c.args in
     let named = sym c.are_named.ensures ∙ c.if-not-are_named.false in
     opened_call a.host.now a.line a.dialect a.image.now a.tries a.limit a.pings c.if-host-ne-HOST_BYTES.false named
-    c.line_of-bus.ensures c.dialect_of.ensures c.open-opened.ensures c.code-2.ensures
+    c.line_of-bus.ensures c.dialect_of.ensures c.open-opened.ensures c.code_of.ensures
     c.write_host.ensures

@@ -7,7 +7,7 @@ use Rattle.bench_hosts.proofs.turn_host.Goals as goal
 pub returns-then-host-ne-HOST_BYTES : goal.returns-then-host-ne-HOST_BYTES
 returns-then-host-ne-HOST_BYTES c =
     let a = c.args in
-    same_call c.refuse.ensures refl ∙ no_turn a.host.now a.image.now c.if-host-ne-HOST_BYTES.true
+    same_call c.only_refusal.ensures refl ∙ no_turn a.host.now a.image.now c.if-host-ne-HOST_BYTES.true
 
 pub turn_value-requires : goal.turn_value-requires
 turn_value-requires c =

@@ -14,4 +14,4 @@ overflow_add-result-2 c =
 pub returns : goal.returns
 returns c =
     let small = flag_small c.args.turned.host.ended c.flag-ended.ensures in
-    omega (arith, small, c.sent_value.ensures.value, c.sent_value.ensures.upper_bound, c.code.ensures, c.flag-ended.ensures)
+    omega (arith, small, c.sent_value.ensures.value, c.sent_value.ensures.upper_bound, c.code_of.ensures, c.flag-ended.ensures)

@@ -6,8 +6,8 @@ use Rattle.windows.specs.rules.Window.{sum_of}
 use Rattle.opcodes.specs.rules.Answers.{code_of}
 use Rattle.opcodes.specs.declared.Event.{Event}
 use Rattle.opcodes.specs.declared.Event.TheVariants as event
-use Rattle.opcodes.specs.declared.Refusal.{Refusal}
-use Rattle.opcodes.specs.declared.Refusal.TheVariants as refusal
+use Rattle.opcodes.specs.rules.Refusals.{Verdict}
+use Rattle.opcodes.specs.rules.Refusals as refusal
 use Rattle.host_answers.specs.rules.Hosts.{heard, opened_by}
 use Rattle.host.specs.rules.Turn.{turned}
 use Rattle.host_answers.specs.declared.Opened.{Opened}
@@ -76,13 +76,13 @@ entry_value (event.Enter address) = 2 ^ 32 + address
 
 -- what an exchange comes to as a number: the host's refusal, its retries, the loader's refusal, the entry
 abbrev pub exchange_value : Exchanged → ℕ
-exchange_value e = e.refusal * 2 ^ 56 + e.retries * 2 ^ 48 + e.refused * 2 ^ 40 + entry_value e.event
+exchange_value e = code_of e.refusal * 2 ^ 56 + e.retries * 2 ^ 48 + code_of e.refused * 2 ^ 40 + entry_value e.event
 
 abbrev pub exchanged_into : Talk → CallOutcome
 exchanged_into t = leaving (exchange_value (outcome_of 0 t)) t.loader.memory
 
 -- why an exchange does not begin: 19 for a line or a dialect, 1 for the map, 2 for the memory
-unfoldable pub exchange_refused : ℕ → ℕ → List ℕ → ℕ → Refusal
+unfoldable pub exchange_refused : ℕ → ℕ → List ℕ → ℕ → Verdict
 exchange_refused line dialect map lent =
     pick (not (are_named line dialect)) refusal.Call
     (pick (not (good_map (count_of map) (windows_of map))) refusal.Map
@@ -91,7 +91,7 @@ exchange_refused line dialect map lent =
 -- an exchange of a freshly opened host and loader, the memory as the loader left it
 unfoldable pub exchange_session : ℕ → ℕ → List ℕ → List ℕ → List ℕ → ℕ → ℕ → ℕ → CallOutcome
 exchange_session line dialect map memory image tries limit pings =
-    let q : Refusal = exchange_refused line dialect map (length memory) in
+    let q : Verdict = exchange_refused line dialect map (length memory) in
     pick (eqb (code_of q) 0)
     (exchanged_into (exchanged (meeting (line_of line) (dialect_of dialect) (count_of map) (windows_of map) memory image tries limit pings) image))
     (leaving (code_of q * 2 ^ 56) memory)

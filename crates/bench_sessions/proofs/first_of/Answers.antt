@@ -7,7 +7,7 @@ use Rattle.bench_sessions.proofs.first_of.Goals as goal
 
 pub returns-then-first-eq0 : goal.returns-then-first-eq0
 unfolding first_of
-returns-then-first-eq0 c = c.code.ensures ∙ sym (chosen _ _ _ (eq-eqb _ _ c.if-first-eq0.true))
+returns-then-first-eq0 c = c.code_of.ensures ∙ sym (chosen _ _ _ (eq-eqb _ _ c.if-first-eq0.true))
 
 pub returns : goal.returns
 unfolding first_of

@@ -1,44 +1,33 @@
--- `bench_sessions::put_reply` meets its contract: what is left of the reply, stored from where the loop stands, gives the same room; the loop stops
--- where nothing is left.
-use borrow.Author.Rules.{rules}
-use Prim.Native.Nat.{ℕ, ◌+◌}
-use mathlib.Core.List.{List}
-use mathlib.Core.Path.{◌≡◌, refl, sym, ap, ◌∙◌}
-use native.Mathlib.Omega.{arith}
-use native.Mathlib.Nat.{add-zero}
-use lib.ListN.{length, take, drop, length-take}
-use lib.Seq.{sets}
+-- `bench_sessions::put_reply` meets its contract: what is left of the reply, stored from where the loop stands, gives the same room.
+use Rattle.std.proofs.Common.{rules, ◌≡◌, ℕ, min, ◌+◌, List, length, take, drop, sym, ap, ◌∙◌, arith, add-zero}
+use Rattle.std.proofs.lemmas.List.{take_min}
+use Rattle.std.proofs.lemmas.List.Edits.{sets}
+use Rattle.machine_answers.specs.rules.Replies.{sent_bytes}
 use Rattle.bench_sessions.proofs.Reaching.{byte_turn, all_stored}
 use Rattle.bench_sessions.proofs.put_reply.Goals as goal
 
 pub loop-i-init : goal.loop-i-init
-loop-i-init c =
-    let a = c.args in
-    (search rules, search rules, search rules, refl, ap (λ (k : ℕ). sets a.room.now k (take a.reply.count a.reply.bytes)) (add-zero a.at))
-
-pub returns-then-count-i : goal.returns-then-count-i
-returns-then-count-i c =
-    let loop = c.loop-i in
-    let a = c.args in
-    let all : loop.i ≡ length (take a.reply.count a.reply.bytes) = omega (arith, length-take a.reply.count a.reply.bytes) in
-    record { value = omega arith; room_after = sym (all_stored _ _ _ _ all) ∙ loop.invariant.4 }
+loop-i-init c = ap (λ (k : ℕ). sets c.args.room.now k (take c.min.result c.args.reply.bytes)) (add-zero c.args.at)
 
 pub loop-i-preserved : goal.loop-i-preserved
 loop-i-preserved c =
     let loop = c.loop-i in
-    let a = c.args in (
-      loop.invariant.0,
-      omega arith,
-      omega arith,
-      search rules,
-      ap (λ (room : List ℕ). sets room (a.at + (loop.i + 1)) (drop (loop.i + 1) (take a.reply.count a.reply.bytes)))
-          c.put_byte.ensures
-          ∙ byte_turn _ a.at a.reply.bytes a.reply.count loop.i (omega arith) (omega arith) ∙ loop.invariant.4,
-    )
+    let said = take c.min.result c.args.reply.bytes in
+    ap (λ (room : List ℕ). sets room (c.args.at + (loop.i + 1)) (drop (loop.i + 1) said)) c.put_byte.ensures
+    ∙ byte_turn loop.room c.args.at said loop.i c.loop-i-test.true
+    ∙ loop.invariant
 
 pub returns : goal.returns
 returns c =
     let loop = c.loop-i in
-    let a = c.args in
-    let all : loop.i ≡ length (take a.reply.count a.reply.bytes) = omega (arith, length-take a.reply.count a.reply.bytes) in
-    record { value = omega arith; room_after = sym (all_stored _ _ _ _ all) ∙ loop.invariant.4 }
+    let reply = c.args.reply in
+    let said = take c.min.result reply.bytes in
+    let end : loop.i ≡ length said = omega arith in
+    let long : length reply.bytes ≡ 8 = search rules in
+    let whole : said ≡ sent_bytes reply =
+    ap (λ (n : ℕ). take n reply.bytes) (c.min.ensures ∙ ap (min reply.count) (sym long)) ∙ take_min reply.count reply.bytes in
+    record {
+      value = ap (λ (bytes : List ℕ). c.args.at + length bytes) whole;
+      room_after =
+          sym (all_stored loop.room (c.args.at + loop.i) loop.i said end) ∙ loop.invariant ∙ ap (sets c.args.room.now c.args.at) whole;
+    }

@@ -1,14 +1,7 @@
--- What each turn keeps.
-use Prim.Native.Nat.{◌+◌, ◌-◌, ◌≤◌}
-use mathlib.Core.Path.{◌≡◌}
-use lib.ListN.{length, take, drop}
-use lib.Seq.{sets}
+-- What each turn keeps: what is left of the reply, stored from where the loop stands, gives the same room.
+use Rattle.std.proofs.Common.{◌≡◌, ◌+◌, drop}
+use Rattle.std.proofs.lemmas.List.Edits.{sets}
 use Rattle.bench_sessions.proofs.put_reply.Given as goal
 
 abbrev pub invariant-loop-i : goal.invariant-loop-i
-invariant-loop-i l =
-    (length l.bytes ≡ 8) × (l.i ≤ l.count) × (l.i ≤ 8) × (length l.room ≡ length l.initial.room)
-    × (sets l.room (l.at + l.i) (drop l.i (take l.count l.bytes)) ≡ sets l.initial.room l.at (take l.count l.bytes))
-
-abbrev pub decreases-loop-i : goal.decreases-loop-i
-decreases-loop-i l = 8 - l.i
+invariant-loop-i l = sets l.room (l.at + l.i) (drop l.i l.said) ≡ sets l.initial.room l.at l.said

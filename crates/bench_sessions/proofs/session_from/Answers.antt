@@ -6,24 +6,24 @@ use Prim.Native.Nat.{ℕ}
 use native.Mathlib.Omega.{arith}
 use lib.ListN.{length, take}
 use Rattle.windows.specs.rules.Window.{sum_of}
-use Rattle.opcodes.specs.rules.Answers.{code_of}
+use Rattle.opcodes.proofs.Verdicts.{numbered, some_of, none_of}
 use Rattle.sent.specs.rules.Bus.{units_fed}
 use Rattle.bench_sessions.specs.rules.Feeding.{begun}
 use Rattle.bench_sessions.specs.rules.Numbers.{watched_fed}
 use Rattle.bench_sessions.proofs.SessionCases.{has_room, before_opening, before_memory, before_narrow, before_none, from_refused, from_fed}
 use Rattle.bench_sessions.proofs.session_from.Goals as goal
 
-pub returns-then-code-ne0 : goal.returns-then-code-ne0
-returns-then-code-ne0 c =
+pub returns-in-Some : goal.returns-in-Some
+returns-in-Some c =
     let a = c.args in
-    let refused : code_of a.opened.refusal ≢ 0 = λ e. c.if-code-ne0.true (c.code.ensures ∙ e) in
+    let refused = c.in-Some.is in
     from_refused a.bus a.opened _ a.memory.now a.numbers.now a.fed.now a.room.now
-    (before_opening a.bus a.opened _ _ _ refused) refused c.refuse.ensures
+    (before_opening a.bus a.opened _ _ _ (some_of _ refused) ∙ refused) (numbered c.in-Some.refusal) c.refuse.ensures
 
 pub returns-then-memory-sum : goal.returns-then-memory-sum
 returns-then-memory-sum c =
     let a = c.args in
-    let opened = sym c.code.ensures ∙ c.if-code-ne0.false in
+    let opened = none_of _ c.in_default.not-Some in
     let short : length a.memory.now ≢ sum_of a.opened.session.core.windows = λ e. c.if-memory-sum.true (e ∙ sym c.sum.ensures) in
     from_refused a.bus a.opened _ a.memory.now a.numbers.now a.fed.now a.room.now
     (before_memory a.bus a.opened _ _ _ opened short) (λ e. omega arith) c.refuse-then-memory-sum.ensures
@@ -31,7 +31,7 @@ returns-then-memory-sum c =
 pub returns-then-not-is_roomy : goal.returns-then-not-is_roomy
 returns-then-not-is_roomy c =
     let a = c.args in
-    let opened = sym c.code.ensures ∙ c.if-code-ne0.false in
+    let opened = none_of _ c.in_default.not-Some in
     let lent = c.if-memory-sum.false ∙ c.sum.ensures in
     let narrow = sym c.is_roomy.ensures ∙ c.if-not-is_roomy.true in
     from_refused a.bus a.opened _ a.memory.now a.numbers.now a.fed.now a.room.now
@@ -45,7 +45,7 @@ feed_all-requires c =
 pub returns : goal.returns
 returns c =
     let a = c.args in
-    let opened = sym c.code.ensures ∙ c.if-code-ne0.false in
+    let opened = none_of _ c.in_default.not-Some in
     let lent = c.if-memory-sum.false ∙ c.sum.ensures in
     let wide = sym c.is_roomy.ensures ∙ c.if-not-is_roomy.false in
     let units = units_fed a.bus a.fed.now in

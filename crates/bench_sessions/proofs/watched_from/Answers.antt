@@ -1,13 +1,18 @@
 -- `bench_sessions::watched_from` meets its contract: barred, nothing is touched; else it is the session from its opening.
-use mathlib.Core.Path.{sym, ◌∙◌}
+use Prim.Native.Nat.{◌*◌, ◌^◌}
+use mathlib.Core.Path.{sym, ap, ◌∙◌}
+use Rattle.opcodes.specs.rules.Answers.{code_of}
+use Rattle.opcodes.specs.rules.Refusals.{Verdict}
+use Rattle.opcodes.proofs.Verdicts.{some_of, none_of}
 use Rattle.bench_sessions.proofs.SessionCases.{watched_barred, watched_begun}
 use Rattle.bench_sessions.proofs.watched_from.Goals as goal
 
-pub returns-then-code-ne0 : goal.returns-then-code-ne0
-returns-then-code-ne0 c =
+pub returns-in-Some : goal.returns-in-Some
+returns-in-Some c =
     let a = c.args in
-    watched_barred a.bus a.opened a.choice a.memory.now a.numbers.now a.fed.now a.room.now c.bar-refusal.ensures
-    c.sum.ensures (λ e. c.if-code-ne0.true (c.code.ensures ∙ e)) c.refuse.ensures
+    let barred = c.in-Some.is in
+    watched_barred a.bus a.opened a.choice a.memory.now a.numbers.now a.fed.now a.room.now c.bar-barred.ensures
+    c.sum.ensures (some_of _ barred) (c.refuse.ensures ∙ sym (ap (λ (q : Verdict). code_of q * 2 ^ 32) barred))
 
 pub session_from-requires : goal.session_from-requires
 session_from-requires c = c.requires
@@ -16,5 +21,5 @@ pub returns : goal.returns
 returns c =
     let a = c.args in
     c.session_from.ensures
-    ∙ watched_begun a.bus a.opened a.choice a.memory.now a.numbers.now a.fed.now a.room.now c.bar-refusal.ensures
-    c.sum.ensures (sym c.code.ensures ∙ c.if-code-ne0.false)
+    ∙ watched_begun a.bus a.opened a.choice a.memory.now a.numbers.now a.fed.now a.room.now c.bar-barred.ensures
+    c.sum.ensures (none_of _ c.in_default.not-Some)

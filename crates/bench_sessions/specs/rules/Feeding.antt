@@ -4,8 +4,8 @@ use Rattle.words.specs.rules.Choice.{pick}
 use Rattle.windows.specs.rules.Window.{sum_of}
 use Rattle.opcodes.specs.rules.Answers.{accepted, code_of}
 use Rattle.opcodes.specs.declared.Dialect.{Dialect}
-use Rattle.opcodes.specs.declared.Refusal.{Refusal}
-use Rattle.opcodes.specs.declared.Refusal.TheVariants as refusal
+use Rattle.opcodes.specs.rules.Refusals.{Verdict}
+use Rattle.opcodes.specs.rules.Refusals as refusal
 use Rattle.sent.specs.rules.Bus.{unit_bits, units_fed}
 use Rattle.sent.specs.rules.Feeding.{State, fed, answers, replied, first_refused}
 use Rattle.sent.specs.rules.Opening.{opened_by}
@@ -26,7 +26,7 @@ abbrev pub outcome : ℕ → List ℕ → List ℕ → SessionOutcome
 outcome value memory room = record { value = value; memory = memory; room = room }
 
 -- refused before anything is fed: nothing is touched
-abbrev pub unfed : Refusal → List ℕ → List ℕ → SessionOutcome
+abbrev pub unfed : Verdict → List ℕ → List ℕ → SessionOutcome
 unfed q memory room = outcome (code_of q * 2 ^ 32) memory room
 
 -- units fed after an opening's reply: the first refusal's code and the count of reply bytes in one number; the memory after them; all replies at the front of
@@ -60,7 +60,7 @@ roomy bus lent room =
     eqb (lent % unit_bytes bus) 0 && (leb (lent / unit_bytes bus) most_fed && leb (opening_room bus + unit_room bus * (lent / unit_bytes bus)) room)
 
 -- why a session does not begin, by its opening and the lengths lent: 1, 2, 19
-unfoldable pub refused_before : Bus → Opened → ℕ → ℕ → ℕ → Refusal
+unfoldable pub refused_before : Bus → Opened → ℕ → ℕ → ℕ → Verdict
 refused_before bus o memory lent room =
     pick (not (accepted o.refusal)) o.refusal
     (pick (not (eqb memory (sum_of o.session.core.windows))) refusal.Memory

@@ -6,8 +6,8 @@ use Rattle.windows.specs.rules.Window.{sum_of}
 use Rattle.opcodes.specs.rules.Answers.{accepted, code_of}
 use Rattle.opcodes.specs.declared.Dialect.{Dialect}
 use Rattle.opcodes.specs.declared.Dialect.TheVariants.{Am17xx, Dm648}
-use Rattle.opcodes.specs.declared.Refusal.{Refusal}
-use Rattle.opcodes.specs.declared.Refusal.TheVariants as refusal
+use Rattle.opcodes.specs.rules.Refusals.{Verdict}
+use Rattle.opcodes.specs.rules.Refusals as refusal
 use Rattle.sent.specs.rules.Bus.{units_fed}
 use Rattle.sent.specs.rules.Feeding.{State}
 use Rattle.sent.specs.rules.Opening.{opened_by, numbering_from}
@@ -30,7 +30,7 @@ abbrev pub watched : ℕ → List ℕ → List ℕ → List ℕ → Watched
 watched value memory numbers room = record { session = outcome value memory room; numbers = numbers }
 
 -- refused before anything is fed: nothing is touched
-abbrev pub unwatched : Refusal → List ℕ → List ℕ → List ℕ → Watched
+abbrev pub unwatched : Verdict → List ℕ → List ℕ → List ℕ → Watched
 unwatched q memory numbers room = watched (code_of q * 2 ^ 32) memory numbers room
 
 -- units fed after an opening's reply, and the numbers of the words at these places after them
@@ -59,7 +59,7 @@ abbrev pub choice_on : List ℕ → List ℕ → Choice
 choice_on map chosen = choice_of (kept_of (count_of map) (windows_of map)) chosen
 
 -- why a session with numbers does not begin: 1, 24, what the opening refuses after 1, 2 for the numbers' length, 2 for the memory's
-unfoldable pub barred : Refusal → Choice → ℕ → ℕ → ℕ → Refusal
+unfoldable pub barred : Verdict → Choice → ℕ → ℕ → ℕ → Verdict
 barred opening choice numbers memory sum =
     pick (eqb (code_of opening) (code_of refusal.Map)) opening
     (pick (not (accepted choice.refusal)) choice.refusal

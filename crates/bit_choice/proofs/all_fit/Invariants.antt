@@ -1,12 +1,8 @@
 -- What each turn keeps.
-use Prim.Native.Nat.{◌-◌, ◌≤◌}
 use mathlib.Core.Path.{◌≡◌}
 use Rattle.bit_choice.specs.rules.Chosen.{addresses_from, all_fit}
 use Rattle.bit_choice.proofs.Choosing.{left}
 use Rattle.bit_choice.proofs.all_fit.Given as goal
 
 abbrev pub invariant-loop-i : goal.invariant-loop-i
-invariant-loop-i l = (l.i ≤ l.count) × (all_fit l.windows (left l.bytes l.count l.i) ≡ all_fit l.windows (addresses_from l.bytes 0 l.count))
-
-abbrev pub decreases-loop-i : goal.decreases-loop-i
-decreases-loop-i l = l.count - l.i
+invariant-loop-i l = all_fit l.windows (left l.bytes l.count l.i) ≡ all_fit l.windows (addresses_from l.bytes 0 l.count)

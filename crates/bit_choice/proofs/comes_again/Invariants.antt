@@ -1,5 +1,4 @@
 -- What each turn keeps.
-use Prim.Native.Nat.{◌-◌}
 use mathlib.Core.Path.{◌≡◌}
 use Rattle.bit_choice.specs.rules.Chosen.{among}
 use Rattle.bit_choice.proofs.Choosing.{left}
@@ -7,6 +6,3 @@ use Rattle.bit_choice.proofs.comes_again.Given as goal
 
 abbrev pub invariant-loop-i : goal.invariant-loop-i
 invariant-loop-i l = among l.address (left l.bytes l.count l.i) ≡ among l.address (left l.bytes l.count l.next)
-
-abbrev pub decreases-loop-i : goal.decreases-loop-i
-decreases-loop-i l = l.count - l.i

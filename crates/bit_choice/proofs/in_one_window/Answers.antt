@@ -1,21 +1,18 @@
--- `bit_choice::in_one_window` meets its contract: the windows that are left hold one that grants the word where all of them do.
-use mathlib.Core.Path.{sym, ◌∙◌}
-use Rattle.bit_choice.proofs.Choosing.{one_none, one_here, one_on}
+-- `bit_choice::in_one_window` meets its contract: some window passes the test where one of the list does.
+use mathlib.Core.Path.{◌∙◌}
 use borrow.Author.Rules.{rules}
+use Rattle.std.proofs.Common.{tests}
+use Rattle.std.proofs.lemmas.Iterator.{YieldsList-from_slice}
+use Rattle.std.proofs.lemmas.Iterator.Search.{any_from_yields_List}
+use Rattle.windows.specs.rules.Window.{grants_range}
+use Rattle.windows.specs.declared.Window.{Window}
+use Rattle.windows.specs.declared.Right.TheVariants.{Set}
+use Rattle.bit_choice.proofs.Choosing.{any_grants}
 use Rattle.bit_choice.proofs.in_one_window.Goals as goal
-
-pub returns-then-grants : goal.returns-then-grants
-returns-then-grants c =
-    one_here c.args.windows c.loop-i.i c.args.address (search rules) (sym c.grants.ensures ∙ c.if-grants.true)
-    ∙ c.loop-i.invariant.1
-
-pub loop-i-preserved : goal.loop-i-preserved
-loop-i-preserved c = (
-  search rules,
-  one_on c.args.windows c.loop-i.i c.args.address (search rules) (sym c.grants.ensures ∙ c.if-grants.false)
-      ∙ c.loop-i.invariant.1,
-)
 
 pub returns : goal.returns
 returns c =
-    one_none c.args.windows c.loop-i.i c.args.address (search rules) ∙ c.loop-i.invariant.1
+    let a = c.args in
+    any_from_yields_List (λ (w : Window). grants_range w Set a.address 4) _ _ _ c.any.ensures.ran (YieldsList-from_slice a.windows cc)
+    (λ x b q k. search (rules, tests))
+    ∙ any_grants a.windows a.address

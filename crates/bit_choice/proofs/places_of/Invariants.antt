@@ -1,5 +1,4 @@
 -- What each turn keeps.
-use Prim.Native.Nat.{◌-◌, ◌≤◌}
 use mathlib.Core.List.{map}
 use mathlib.Core.Path.{◌≡◌}
 use lib.ListN.{length}
@@ -10,8 +9,5 @@ use Rattle.bit_choice.proofs.places_of.Given as goal
 
 abbrev pub invariant-loop-i : goal.invariant-loop-i
 invariant-loop-i l =
-    (l.i ≤ l.count) × (length l.places ≡ 64)
+    (length l.places ≡ 64)
     × (sets l.places l.i (map (word_place l.windows) (left l.bytes l.count l.i)) ≡ places_of l.windows (addresses_from l.bytes 0 l.count))
-
-abbrev pub decreases-loop-i : goal.decreases-loop-i
-decreases-loop-i l = l.count - l.i

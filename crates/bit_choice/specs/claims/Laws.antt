@@ -1,10 +1,9 @@
 -- 24 in its cases and in no other, and what the places of a list that is taken are.
-use Rattle.std.specs.Prelude.{ℕ, ◌+◌, ◌*◌, ◌/◌, ◌%◌, ◌≤◌, ◌<◌, true, List, [], ◌∷◌, map, ◌≢◌, ◌≡◌, length, take, replicate}
+use Rattle.std.specs.Prelude.{ℕ, ◌+◌, ◌*◌, ◌/◌, ◌%◌, ◌≤◌, ◌<◌, true, List, [], ◌∷◌, map, ◌≢◌, ◌≡◌, length, take, replicate, Some}
 use Rattle.words.specs.rules.Bytes.{word_at}
 use Rattle.windows.specs.rules.Map.{zero_window}
 use Rattle.windows.specs.claims.Touching.{one_grants}
 use Rattle.windows.specs.rules.Window.{place_of, sum_of}
-use Rattle.windows.specs.declared.Place.TheVariants.{At}
 use Rattle.windows.specs.declared.Right.TheVariants.{Set}
 use Rattle.windows.specs.declared.Window.{Window}
 use Rattle.opcodes.specs.rules.Answers.{code_of}
@@ -34,7 +33,8 @@ pub record ChoiceLaws (windows : List Window) (bytes : List ℕ) : Type 0 where
   pub count : Faultless windows bytes → (choice_of windows bytes).chosen.count ≡ length bytes / 4
   pub places : Faultless windows bytes → take (length bytes / 4) (choice_of windows bytes).chosen.places ≡ map (word_place windows) (addresses_of bytes)
   -- each is where a setting of the word would write, inside the memory
-  pub word : (a : ℕ) → one_grants windows Set a 4 ≡ true → (place_of windows Set a 4 ≡ At (word_place windows a)) × (word_place windows a + 4 ≤ sum_of windows)
+  pub word : (a : ℕ) → one_grants windows Set a 4 ≡ true
+      → (place_of windows Set a 4 ≡ Some (word_place windows a)) × (word_place windows a + 4 ≤ sum_of windows)
   -- a word over a seam may be set, and may not be chosen
-  pub set_over_seam : place_of seam Set 0x80000004 4 ≡ At 4
+  pub set_over_seam : place_of seam Set 0x80000004 4 ≡ Some 4
   pub chosen_over_seam : code_of (choice_of seam (4 ∷ 0 ∷ 0 ∷ 0x80 ∷ [])).refusal ≡ 24

@@ -1,15 +1,14 @@
 -- The words chosen for their bits to be watched, lent as little-endian addresses: which lists are taken, and which are refused with 24.
 use Rattle.std.specs.Prelude.{ℕ, zero, suc, ◌+◌, ◌*◌, ◌/◌, ◌%◌, Bool, true, false, not, ◌&&◌, ◌||◌, List, [], ◌∷◌, map, eqb, leb, length, take, replicate}
+use Rattle.std.specs.Prelude.{unwrap_or}
 use Rattle.std.proofs.lemmas.List.Edits.{sets}
 use Rattle.words.specs.rules.Bytes.{word_at}
 use Rattle.words.specs.rules.Choice.{pick}
-use Rattle.windows.specs.declared.Place.{Place}
-use Rattle.windows.specs.declared.Place.TheVariants.{At, Nowhere}
 use Rattle.windows.specs.declared.Right.TheVariants.{Set}
 use Rattle.windows.specs.declared.Window.{Window}
 use Rattle.windows.specs.claims.Touching.{one_grants}
 use Rattle.windows.specs.rules.Window.{place_of}
-use Rattle.opcodes.specs.declared.Refusal.TheVariants as refusal
+use Rattle.opcodes.specs.rules.Refusals as refusal
 use Rattle.bit_choice.specs.declared.Choice.{Choice}
 use Rattle.bit_choice.specs.declared.Chosen.{Chosen}
 
@@ -40,14 +39,9 @@ all_fit windows (a ∷ rest) = may_be_chosen windows a && not (among a rest) && 
 unfoldable pub good_choice : List Window → List ℕ → Bool
 good_choice windows bytes = eqb (length bytes % 4) 0 && leb (length bytes / 4) 64 && all_fit windows (addresses_of bytes)
 
--- a place as a number; 0 where there is none
-abbrev pub place_number : Place → ℕ
-place_number (At place) = place
-place_number Nowhere = 0
-
--- where a word lies in the lent memory
+-- where a word lies in the lent memory; 0 where it has no place
 unfoldable pub word_place : List Window → ℕ → ℕ
-word_place windows a = place_number (place_of windows Set a 4)
+word_place windows a = unwrap_or (place_of windows Set a 4) 0
 
 -- the places of words, and 0 past them
 unfoldable pub places_of : List Window → List ℕ → List ℕ

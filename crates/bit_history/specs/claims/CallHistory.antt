@@ -1,14 +1,14 @@
 -- The history of a flash session (02, request 6), from the commands that its calls accept and how they are judged: the loads, fills and settings in order,
 -- abandoned ones too. And what its entries and its memory have to do with it.
-use Rattle.std.specs.Prelude.{ℕ, zero, suc, ◌*◌, ◌<◌, true, List, [], ◌∷◌, ◌++◌, ◌≡◌, length, replicate}
+use Rattle.std.specs.Prelude.{ℕ, zero, suc, ◌*◌, ◌<◌, true, List, [], ◌∷◌, ◌++◌, ◌≡◌, length, replicate, Result, Ok, Err}
 use Rattle.words.specs.rules.Bytes.{bytes_at, word_at}
 use Rattle.words.specs.rules.Choice.{pick}
 use Rattle.opcodes.specs.rules.Answers.{accepted}
 use Rattle.opcodes.specs.rules.Opcodes.{by_writing, looked_up}
 use Rattle.opcodes.specs.declared.Command.{Command}
-use Rattle.opcodes.specs.declared.Found.{Found}
-use Rattle.opcodes.specs.declared.Found.TheVariants.{Known, Retired, Unknown}
 use Rattle.opcodes.specs.declared.Mode.TheVariants.{Flash}
+use Rattle.opcodes.specs.declared.Known.{Known}
+use Rattle.opcodes.specs.declared.Refusal.{Refusal}
 use Rattle.reading.specs.rules.Reading.{past_words, argument}
 use Rattle.commands.specs.rules.Commands.{load_judged, unit_of, fill_judged, shape_of, setting_judged}
 use Rattle.law_effects.specs.claims.Effects.{load_effect, fill_effect, setting_effect}
@@ -35,10 +35,9 @@ accepted_command command words s image =
     []
 
 -- by what the table finds at the session's offset
-abbrev pub accepted_row : Found → Session → List ℕ → List Numbered
-accepted_row Unknown s image = []
-accepted_row Retired s image = []
-accepted_row (Known command words) s image = accepted_command command words s image
+abbrev pub accepted_row : Result Known Refusal → Session → List ℕ → List Numbered
+accepted_row (Err q) s image = []
+accepted_row (Ok known) s image = accepted_command known.command known.words s image
 
 -- what a call with this outcome adds: its command, where it is accepted
 abbrev pub added : CallOutcome → List Numbered → List Numbered

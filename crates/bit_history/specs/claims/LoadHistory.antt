@@ -1,6 +1,6 @@
 -- A load by line as a whole (02, request 6). It is listed as its data come; all its words together say of each bit what the whole load says, by the number that
 -- it took at its size word, and they give memory its bytes and nothing else.
-use Rattle.std.specs.Prelude.{ℕ, ◌+◌, ◌/◌, ◌^◌, ◌<◌, true, false, List, [], ◌∷◌, ◌≡◌, length, get_or, replicate, take}
+use Rattle.std.specs.Prelude.{ℕ, ◌+◌, ◌/◌, ◌^◌, ◌<◌, true, false, List, [], ◌∷◌, ◌≡◌, length, get_or, replicate, take, Ok}
 use Rattle.words.specs.rules.Bytes.{words_bytes}
 use Rattle.windows.specs.rules.Map.{zero_window}
 use Rattle.windows.specs.rules.Window.{sum_of}
@@ -9,7 +9,6 @@ use Rattle.opcodes.specs.declared.Command.TheVariants as command
 use Rattle.opcodes.specs.declared.Dialect.TheVariants.{Am17xx}
 use Rattle.ledger.specs.rules.Totals.{at_opening, from_one}
 use Rattle.commands.specs.rules.Commands.{load_judged}
-use Rattle.commands.specs.declared.Judged.TheVariants.{Granted}
 use Rattle.law_effects.specs.claims.Effects.{Effect, load_effect, DoesInside}
 use Rattle.machine_answers.specs.rules.Answers.{tallied}
 use Rattle.machine_answers.specs.declared.Core.{Core}
@@ -31,7 +30,7 @@ pub record AtLoad (k : Core) (m : List ℕ) (size place : ℕ) (words : List ℕ
   pub running : k.ended ≡ false
   pub begun : k.begun ≡ true
   pub lent : length m ≡ sum_of k.windows
-  pub granted : load_judged k.windows kept.third size ≡ Granted place
+  pub granted : load_judged k.windows kept.third size ≡ Ok place
   pub taken : code_of (word_step k m size).answer.refusal ≡ 0
   pub complete : length words ≡ (size + 3) / 4
   pub small : (i : ℕ) → get_or (size ∷ words) i 0 < 2 ^ 32

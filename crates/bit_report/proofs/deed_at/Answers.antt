@@ -1,33 +1,25 @@
 -- `bit_report::deed_at` meets its contract: each arm is one case of what the table says of the opcode.
-use mathlib.Core.Path.{sym, ap, ◌∙◌}
+use mathlib.Core.Path.{ap, ◌∙◌}
 use Prim.Native.Nat.{ℕ}
+use Rattle.std.specs.declared.result.Result.{Result}
 use Rattle.opcodes.specs.rules.Opcodes.{looked_up}
 use Rattle.opcodes.specs.declared.Dialect.TheVariants.{Am17xx}
-use Rattle.opcodes.specs.declared.Found.{Found}
 use Rattle.opcodes.specs.declared.Mode.TheVariants.{Flash}
+use Rattle.opcodes.specs.declared.Known.{Known}
+use Rattle.opcodes.specs.declared.Refusal.{Refusal}
 use Rattle.bit_report.specs.rules.Deeds.{found_deed, deed_at}
 use Rattle.bit_report.proofs.deed_at.Goals as goal
 
-pub returns-in-Known : goal.returns-in-Known
+pub returns-in-Ok : goal.returns-in-Ok
 unfolding deed_at
-returns-in-Known c =
+returns-in-Ok c =
     let a = c.args in
-    let row = c.look_up-found.ensures ∙ ap (λ (o : ℕ). looked_up o Flash Am17xx) c.word_at-opcode.ensures in
-    c.command_deed.ensures
-    ∙ sym (ap (λ (f : Found). found_deed f a.image.now a.at a.word) (sym row ∙ c.in-Known.is))
+    let row = c.in-Ok.ensures ∙ ap (λ (o : ℕ). looked_up o Flash Am17xx) c.word_at-opcode.ensures in
+    c.command_deed.ensures ∙ ap (λ (f : Result Known Refusal). found_deed f a.image.now a.at a.word) row
 
-pub returns-in-Retired : goal.returns-in-Retired
+pub returns-in-Err : goal.returns-in-Err
 unfolding deed_at
-returns-in-Retired c =
+returns-in-Err c =
     let a = c.args in
-    let row = c.look_up-found.ensures ∙ ap (λ (o : ℕ). looked_up o Flash Am17xx) c.word_at-opcode.ensures in
-    c.no_deed.ensures
-    ∙ sym (ap (λ (f : Found). found_deed f a.image.now a.at a.word) (sym row ∙ c.in-Retired.is))
-
-pub returns-in-Unknown : goal.returns-in-Unknown
-unfolding deed_at
-returns-in-Unknown c =
-    let a = c.args in
-    let row = c.look_up-found.ensures ∙ ap (λ (o : ℕ). looked_up o Flash Am17xx) c.word_at-opcode.ensures in
-    c.no_deed-in-Unknown.ensures
-    ∙ sym (ap (λ (f : Found). found_deed f a.image.now a.at a.word) (sym row ∙ c.in-Unknown.is))
+    let row = c.in-Err.ensures ∙ ap (λ (o : ℕ). looked_up o Flash Am17xx) c.word_at-opcode.ensures in
+    c.no_deed.ensures ∙ ap (λ (f : Result Known Refusal). found_deed f a.image.now a.at a.word) row

@@ -1,12 +1,8 @@
 -- What each turn keeps.
 use mathlib.Core.Path.{◌≡◌}
-use Prim.Native.Nat.{◌-◌}
 use Rattle.bit_report.specs.rules.Lowest.{lowest_in}
 use Rattle.bit_report.specs.rules.Parts.{by_one}
 use Rattle.bit_report.proofs.is_first.Given as goal
 
 abbrev pub invariant-loop-i : goal.invariant-loop-i
 invariant-loop-i l = lowest_in (by_one l.numbers l.offsets l.index l.bit) l.i l.bit ≡ lowest_in (by_one l.numbers l.offsets l.index l.bit) 0 l.bit
-
-abbrev pub decreases-loop-i : goal.decreases-loop-i
-decreases-loop-i l = l.bit - l.i

@@ -1,23 +1,18 @@
--- `bit_report::other_field` meets its contract: the lowest bit of those that are left is the lowest of all.
-use borrow.Author.Rules.{rules}
-use mathlib.Core.Path.{sym, ◌∙◌}
+-- `bit_report::other_field` meets its contract: the first that is found is the lowest.
+use Rattle.std.proofs.Common.{◌≡◌, ℕ, true, false, ap, ◌∙◌, rules}
+use Rattle.std.specs.Option.{unwrap_or}
+use Rattle.std.proofs.lemmas.Iterator.{first_from_Range}
+use borrow.Author.Tests.{tests}
 use Rattle.bit_report.specs.rules.Fields.{has_other}
-use Rattle.bit_report.proofs.Lowest.{lowest_none, lowest_here, lowest_on}
+use Rattle.bit_report.proofs.Lowest.{lowest_of_first}
 use Rattle.bit_report.proofs.other_field.Goals as goal
-
-pub returns-then-has_other : goal.returns-then-has_other
-returns-then-has_other c =
-    let a = c.args in
-    lowest_here (has_other a.names a.word a.field) c.loop-i.i a.to (search rules) (sym c.has_other.ensures ∙ c.if-has_other.true)
-    ∙ c.loop-i.invariant
-
-pub loop-i-preserved : goal.loop-i-preserved
-loop-i-preserved c =
-    let a = c.args in
-    lowest_on (has_other a.names a.word a.field) c.loop-i.i a.to (search rules) (sym c.has_other.ensures ∙ c.if-has_other.false)
-    ∙ c.loop-i.invariant
 
 pub returns : goal.returns
 returns c =
     let a = c.args in
-    lowest_none (has_other a.names a.word a.field) c.loop-i.i a.to (search rules) ∙ c.loop-i.invariant
+    let first =
+    first_from_Range _ _ _ _ (λ (k : ℕ). has_other a.names a.word a.field k ≡ true) (λ (k : ℕ). has_other a.names a.word a.field k ≡ false) c.find.ensures.ran
+    (λ x q k. search (rules, tests)) (λ x q k. search (rules, tests)) in
+    c.unwrap_or.ensures
+    ∙ ap (unwrap_or c.find.result) c.max.ensures
+    ∙ lowest_of_first (has_other a.names a.word a.field) a.from a.to c.find.result first

@@ -1,12 +1,13 @@
 -- What may be relied on: a part is all of the bits around its first of which the same is told; a command has the bits that its stamping gave the number; and
 -- what is pointed out is there.
-use Rattle.std.specs.Prelude.{ℕ, ◌+◌, ◌*◌, ◌≤◌, ◌<◌, true, false, ◌&&◌, List, ◌≡◌, leb, ltb}
+use Rattle.std.specs.Prelude.{ℕ, ◌+◌, ◌*◌, ◌≤◌, ◌<◌, true, false, ◌&&◌, List, ◌≡◌, leb, ltb, Some}
 use Rattle.words.specs.rules.Bits.{within}
 use Rattle.commands.specs.declared.Wrote.{Wrote}
 use Rattle.field_lines.specs.rules.Clashes.{has_bit}
+use Rattle.field_lines.specs.declared.FieldLine.{FieldLine}
 use Rattle.bit_report.specs.rules.Deeds.{spread}
 use Rattle.bit_report.specs.rules.Fields.{has_field, two_fields, cut_field}
-use Rattle.bit_report.specs.rules.Parts.{field_at, told_of, alike, part_end, by_one, is_first}
+use Rattle.bit_report.specs.rules.Parts.{field_at, name_in, told_of, alike, part_end, by_one, is_first}
 use Rattle.bit_report.specs.declared.Kind.{Kind}
 use Rattle.bit_report.specs.declared.Names.{Names}
 use Rattle.bit_report.specs.declared.Told.{Told}
@@ -16,7 +17,7 @@ use Rattle.bit_report.specs.declared.Word.{Word}
 pub record SameTold (a b : Told) : Type 0 where
   pub number : a.number ≡ b.number
   pub offset : a.at ≡ b.at
-  pub name : a.field.line.name ≡ b.field.line.name
+  pub name : name_in a.field ≡ name_in b.field
 
 -- the part of a word from a bit on
 pub record PartLaws (numbers offsets : List ℕ) (names : Names) (w : Word) (k : ℕ) : Type 0 where
@@ -49,15 +50,16 @@ pub record Two (names : Names) (word from to : ℕ) : Type 0 where
   pub other_written : (from ≤ other) × (other < to)
   pub one_named : has_field names word one ≡ true
   pub other_named : has_field names word other ≡ true
-  pub differ : (field_at names word one).line.name ≡ (field_at names word other).line.name → ⊥
+  pub differ : name_in (field_at names word one) ≡ name_in (field_at names word other) → ⊥
 
 -- a bit of a command, and a bit of its field that the command does not write
 pub record Cut (names : Names) (word from to : ℕ) : Type 0 where
   pub inside : ℕ
   pub outside : ℕ
   pub written : (from ≤ inside) × (inside < to)
-  pub named : has_field names word inside ≡ true
-  pub same-field : has_bit (field_at names word inside).line word outside ≡ true
+  pub field : FieldLine
+  pub named : field_at names word inside ≡ Some field
+  pub same-field : has_bit field word outside ≡ true
   pub not_written : (from ≤ outside) × (outside < to) → ⊥
 
 -- what is pointed out is there, and what is there is pointed out

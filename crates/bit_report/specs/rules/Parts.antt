@@ -1,8 +1,9 @@
 -- What is told of the bits of a chosen word, and the parts of the word of which the same is told.
-use Rattle.std.specs.Prelude.{ℕ, ◌+◌, ◌-◌, ◌/◌, ◌%◌, ◌^◌, Bool, not, ◌&&◌, List, eqb, ltb}
+use Rattle.std.specs.Prelude.{ℕ, ◌+◌, ◌-◌, ◌/◌, ◌%◌, ◌^◌, Bool, not, ◌&&◌, List, eqb, ltb, replicate, Option}
+use Rattle.std.specs.Option.{option_map_or}
 use Rattle.field_lines.specs.rules.Text.{same}
 use Rattle.field_register.specs.rules.Questions.{field_of}
-use Rattle.field_register.specs.declared.FoundLine.{FoundLine}
+use Rattle.field_lines.specs.declared.FieldLine.{FieldLine}
 use Rattle.bit_stamps.specs.rules.Stamps.{entry_at}
 use Rattle.bit_report.specs.rules.Lowest.{lowest_in}
 use Rattle.bit_report.specs.declared.Names.{Names}
@@ -10,13 +11,17 @@ use Rattle.bit_report.specs.declared.Part.{Part}
 use Rattle.bit_report.specs.declared.Told.{Told}
 use Rattle.bit_report.specs.declared.Word.{Word}
 
--- the field of a bit of the word at an address; a bit of none has a name of zeros
-abbrev pub field_at : Names → ℕ → ℕ → FoundLine
+-- the field of a bit of the word at an address
+abbrev pub field_at : Names → ℕ → ℕ → Option FieldLine
 field_at names address k = field_of names.register address k names.release
 
+-- the name of a field; none has a name of zeros
+abbrev pub name_in : Option FieldLine → List ℕ
+name_in field = option_map_or (λ l. l.name) field (replicate 16 0)
+
 -- fields of one name
-unfoldable pub same_field : FoundLine → FoundLine → Bool
-same_field a b = same a.line.name b.line.name
+unfoldable pub same_field : Option FieldLine → Option FieldLine → Bool
+same_field a b = same (name_in a) (name_in b)
 
 -- the entries of a bit, and its field
 unfoldable pub told_of : List ℕ → List ℕ → Names → Word → ℕ → Told

@@ -1,6 +1,5 @@
 -- `bit_stamps::stamp_bits` meets its contract: after i turns the first i entries are written, two bytes each.
 use borrow.Author.Rules.{rules}
-use native.Mathlib.Omega.{arith}
 use Rattle.words.specs.rules.Bytes.{put}
 use Rattle.bit_stamps.proofs.Stamping.{two_more}
 use Rattle.bit_stamps.proofs.stamp_bits.Goals as goal
@@ -10,13 +9,11 @@ unfolding put
 loop-i-init c = search rules
 
 pub loop-i-preserved : goal.loop-i-preserved
-loop-i-preserved c = (
-  omega arith,
-  rw (
-    c.put_byte-in-loop-i.ensures,
-    c.put_byte.ensures,
-    c.loop-i.invariant.1,
-    c.byte_of-high.ensures,
-    c.byte_of-low.ensures,
-  ) (two_more _ _ _ _),
-)
+loop-i-preserved c =
+    rw (
+      c.put_byte-in-loop-i.ensures,
+      c.put_byte.ensures,
+      c.loop-i.invariant,
+      c.byte_of-high.ensures,
+      c.byte_of-low.ensures,
+    ) (two_more _ _ _ _)

@@ -21,6 +21,6 @@ pub returns-then-is_length : goal.returns-then-is_length
 unfolding most_of
 returns-then-is_length c = sym (chosen _ _ _ (sym c.is_length.ensures ∙ c.if-is_length.true))
 
-pub returns : goal.returns
+pub returns-else-is_length : goal.returns-else-is_length
 unfolding most_of
-returns c = sym (passed _ _ _ (sym c.is_length.ensures ∙ c.if-is_length.false))
+returns-else-is_length c = sym (passed _ _ _ (sym c.is_length.ensures ∙ c.if-is_length.false))

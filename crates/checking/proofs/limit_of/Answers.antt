@@ -6,5 +6,5 @@ use Rattle.checking.proofs.limit_of.Goals as goal
 
 pub overflow_cast-result : goal.overflow_cast-result
 overflow_cast-result c =
-    let number = made 10 255 _ _ (sym c.in-Is.is ∙ c.decimal.ensures) in
+    let number = made 10 255 _ _ (sym c.in_ok-retries.was ∙ c.decimal.ensures) in
     record { fits = omega (arith, number.small, number.is) }

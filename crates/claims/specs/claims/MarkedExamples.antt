@@ -1,14 +1,12 @@
 -- The examples that document 01 marks as proved, in its order and as the requests of 02 amend them: each is a statement in the definitions of the
 -- lower crates.
-use Rattle.std.specs.Prelude.{ℕ, ◌^◌, ◌<◌, ◌≡◌, List, [], ◌∷◌, replicate}
+use Rattle.std.specs.Prelude.{ℕ, ◌^◌, ◌<◌, ◌≡◌, List, [], ◌∷◌, replicate, Ok}
 use Rattle.words.specs.rules.Bytes.{byte}
 use Rattle.checksum.specs.rules.Checksum.{fed_words}
 use Rattle.windows.specs.rules.Map.{zero_window}
 use Rattle.windows.specs.declared.Window.{Window}
-use Rattle.commands.specs.rules.Commands.{judged_code, sought_code, load_judged, fill_judged, setting_judged, sought_from}
+use Rattle.commands.specs.rules.Commands.{judged_code, load_judged, fill_judged, setting_judged, sought_from}
 use Rattle.stores.specs.rules.Stores.{load_fed}
-use Rattle.commands.specs.declared.Judged.TheVariants.{Granted}
-use Rattle.commands.specs.declared.Sought.TheVariants as sought
 use Rattle.claims.specs.claims.Leaving.{set_on, filled_on}
 
 -- every statement of a list holds
@@ -42,7 +40,7 @@ marked =
     -- a field that would start at bit 5 and stop at bit 4 is a wrong type word, whatever the data
     ∷ ((value : ℕ) → judged_code (setting_judged windows 0x00040503 0x80000000 value) ≡ 8)
     -- the window's last byte may be loaded
-    ∷ (load_judged windows 0x80000FFF 1 ≡ Granted 4095)
+    ∷ (load_judged windows 0x80000FFF 1 ≡ Ok 4095)
     -- one byte more would lie past the window's end
     ∷ (judged_code (load_judged windows 0x80000FFF 2) ≡ 7)
     -- the end is outside the window, so not even nothing may be loaded there
@@ -53,11 +51,11 @@ marked =
     -- five bytes are no whole number of such units
     ∷ (judged_code (fill_judged windows 0x80000000 5 1) ≡ 9)
     -- from a Request at 28 a seek counts from 40: 36 back is the first command
-    ∷ (sought_from 28 0xFFFFFFDC ≡ sought.To 4)
+    ∷ (sought_from 28 0xFFFFFFDC ≡ Ok 4)
     -- 40 back is before it
-    ∷ (sought_code (sought_from 28 0xFFFFFFD8) ≡ 12)
+    ∷ (judged_code (sought_from 28 0xFFFFFFD8) ≡ 12)
     -- 0 is past the Request
-    ∷ (sought_code (sought_from 28 0) ≡ 12)
+    ∷ (judged_code (sought_from 28 0) ≡ 12)
     -- 12 back is the Request itself
-    ∷ (sought_code (sought_from 28 0xFFFFFFF4) ≡ 12)
+    ∷ (judged_code (sought_from 28 0xFFFFFFF4) ≡ 12)
     ∷ []

@@ -1,24 +1,14 @@
 -- `commands::seek` meets its contract: the two wrapping sums lead to the target, and its tests are those of the definition.
-use Rattle.std.proofs.Common.{sym}
-use Rattle.commands.proofs.Seeking.{wrapped, astray_unaligned, astray_low, astray_ahead, led_back}
+use Rattle.std.proofs.Common.{arith}
+use Rattle.std.proofs.lemmas.Grind.{common_steps}
+use Rattle.words.specs.rules.Choice.{pick}
+use Rattle.commands.specs.rules.Commands.{multiple, target, sought_from}
 use Rattle.commands.proofs.seek.Goals as goal
 
 pub returns-then-target-ne0 : goal.returns-then-target-ne0
-returns-then-target-ne0 c =
-    let led = wrapped _ _ c.wrapping_add_u32-after.ensures.value c.wrapping_add_u32-target.ensures.value in
-    sym (astray_unaligned _ _ led c.if-target-ne0.true)
-
-pub returns-then-target-lt4 : goal.returns-then-target-lt4
-returns-then-target-lt4 c =
-    let led = wrapped _ _ c.wrapping_add_u32-after.ensures.value c.wrapping_add_u32-target.ensures.value in
-    sym (astray_low _ _ led c.if-target-lt4.true)
-
-pub returns-then-request-target : goal.returns-then-request-target
-returns-then-request-target c =
-    let led = wrapped _ _ c.wrapping_add_u32-after.ensures.value c.wrapping_add_u32-target.ensures.value in
-    sym (astray_ahead _ _ led c.if-request-target.true)
+unfolding sought_from target multiple pick
+returns-then-target-ne0 c = grind (arith, common_steps)
 
 pub returns : goal.returns
-returns c =
-    let led = wrapped _ _ c.wrapping_add_u32-after.ensures.value c.wrapping_add_u32-target.ensures.value in
-    sym (led_back _ _ led c.if-target-ne0.false c.if-target-lt4.false c.if-request-target.false)
+unfolding sought_from target multiple pick
+returns c = grind (arith, common_steps)

@@ -1,10 +1,6 @@
 -- Which bits of memory a command writes (02, request 6): a load or a fill all bits of its bytes, a setting those of its shape and no others.
-use Rattle.std.specs.Prelude.{ℕ, ◌+◌, ◌*◌}
-use Rattle.commands.specs.rules.Commands.{shape_of}
-use Rattle.commands.specs.declared.Judged.{Judged}
-use Rattle.commands.specs.declared.Judged.TheVariants.{Granted, Refused}
-use Rattle.commands.specs.declared.Shape.{Shape}
-use Rattle.commands.specs.declared.Shape.TheVariants.{Bits, Wrong}
+use Rattle.std.specs.Prelude.{ℕ, ◌+◌, ◌*◌, Some, None, Ok, Err}
+use Rattle.commands.specs.rules.Commands.{shape_of, Judged, Shape}
 use Rattle.commands.specs.declared.Wrote.{Wrote}
 
 -- the first of the bits that were written, in one count over all memory
@@ -25,15 +21,15 @@ none_wrote = bits_wrote 0 0 0 0
 
 -- a load or a fill of so many bytes, by its judgement
 abbrev pub bytes_wrote : Judged → ℕ → ℕ → Wrote
-bytes_wrote (Granted place) size number = bits_wrote place 0 (8 * size) number
-bytes_wrote (Refused q) size number = none_wrote
+bytes_wrote (Ok place) size number = bits_wrote place 0 (8 * size) number
+bytes_wrote (Err q) size number = none_wrote
 
 -- a setting of a shape at a place
 abbrev pub shape_wrote : ℕ → Shape → ℕ → Wrote
-shape_wrote place Wrong number = none_wrote
-shape_wrote place (Bits unit start width field) number = bits_wrote place start width number
+shape_wrote place None number = none_wrote
+shape_wrote place (Some bits) number = bits_wrote place bits.start bits.width number
 
 -- a setting, by its judgement
 abbrev pub setting_wrote : Judged → ℕ → ℕ → Wrote
-setting_wrote (Granted place) word number = shape_wrote place (shape_of word) number
-setting_wrote (Refused q) word number = none_wrote
+setting_wrote (Ok place) word number = shape_wrote place (shape_of word) number
+setting_wrote (Err q) word number = none_wrote

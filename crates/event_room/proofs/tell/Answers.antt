@@ -15,12 +15,6 @@ returns-then-room-lt8 c =
     let parts = tells_none a.room.now a.place a.event (λ e. c.if-kind-eq0.false (c.kind-kind.ensures ∙ e)) (omega arith) in
     record { value = parts.0; room_after = parts.1 }
 
-pub returns-then-room-place : goal.returns-then-room-place
-returns-then-room-place c =
-    let a = c.args in
-    let parts = tells_none a.room.now a.place a.event (λ e. c.if-kind-eq0.false (c.kind-kind.ensures ∙ e)) (omega arith) in
-    record { value = parts.0; room_after = parts.1 }
-
 pub returns : goal.returns
 returns c =
     let a = c.args in let parts = tells_one a.room.now a.place a.event (λ e. c.if-kind-eq0.false (c.kind-kind.ensures ∙ e)) (omega arith)

@@ -6,4 +6,4 @@ use Rattle.exchange.proofs.meet.Goals as goal
 pub returns : goal.returns
 unfolding last_after place_after
 returns c =
-    rw (c.code.ensures, c.hear_all.ensures, c.open_on-loader.ensures, c.open-opened.ensures)
+    rw (c.hear_all.ensures, c.open_on-loader.ensures, c.open-opened.ensures)

@@ -1,11 +1,12 @@
 -- What an exchange comes to, and what stands between its turns where the events are told in a room and only the last is kept.
 use Rattle.std.specs.Prelude.{ℕ, List, [], ◌∷◌}
-use Rattle.opcodes.specs.rules.Answers.{code_of, told}
+use Rattle.std.specs.Option.{option_or}
+use Rattle.opcodes.specs.rules.Answers.{told}
 use Rattle.opcodes.specs.declared.Event.{Event}
 use Rattle.opcodes.specs.declared.Event.TheVariants.{Nothing}
 use Rattle.event_room.specs.rules.Room.{place_after, room_after}
 use Rattle.machine_answers.specs.rules.Replies.{sent_bytes}
-use Rattle.sent.specs.rules.Feeding.{State, fed, answers, replied, events_heard, first_of}
+use Rattle.sent.specs.rules.Feeding.{State, fed, answers, replied, events_heard}
 use Rattle.sent.specs.declared.Answer.{Answer}
 use Rattle.sent.specs.declared.Bus.{Bus}
 use Rattle.host_answers.specs.rules.Hosts.{heard_all}
@@ -64,7 +65,7 @@ noted size s a =
       session = a.session;
       event = last_after s.event (told a.event);
       refusal = s.refusal;
-      refused = first_of s.refused (but_ended (code_of a.refusal));
+      refused = option_or s.refused (but_ended a.refusal);
       told = place_after size s.told (told a.event);
     }
 
@@ -76,7 +77,7 @@ standing_fed size bus s memory units =
       session = (fed bus (loader_of s memory) units).session;
       event = last_after s.event (events_heard (answers bus (loader_of s memory) units));
       refusal = s.refusal;
-      refused = first_of s.refused (first_but_ended (answers bus (loader_of s memory) units));
+      refused = option_or s.refused (first_but_ended (answers bus (loader_of s memory) units));
       told = place_after size s.told (events_heard (answers bus (loader_of s memory) units));
     }
 
@@ -93,7 +94,7 @@ host_turned s turn =
       host = turn.host;
       session = s.session;
       event = s.event;
-      refusal = first_of s.refusal (but_ended (code_of turn.refusal));
+      refusal = option_or s.refusal (but_ended turn.refusal);
       refused = s.refused;
       told = s.told;
     }

@@ -1,11 +1,10 @@
 -- The story carried out: the commands that make a call urgent in release 2 and in release 3 meet the premises, on a board with one set window over the option
 -- word; in flash mode right behind the first word of an image, and on the line as the first command. So one sets bit 6 of the word, the other bit 7.
-use Rattle.std.specs.Prelude.{ℕ, false, List, [], ◌∷◌, ◌≡◌, length, get_or, replicate}
+use Rattle.std.specs.Prelude.{ℕ, false, List, [], ◌∷◌, ◌≡◌, length, get_or, replicate, Some}
 use Rattle.words.specs.rules.Bytes.{words_bytes}
 use Rattle.windows.specs.rules.Map.{zero_window}
 use Rattle.windows.specs.rules.Window.{place_of}
 use Rattle.windows.specs.declared.Window.{Window}
-use Rattle.windows.specs.declared.Place.TheVariants.{At}
 use Rattle.windows.specs.declared.Right.TheVariants.{Set}
 use Rattle.opcodes.specs.declared.Dialect.TheVariants.{Am17xx}
 use Rattle.ledger.specs.rules.Totals.{is_spent}
@@ -47,7 +46,7 @@ on_line = (at_start Am17xx board false).core
 -- the premises, and what comes of them
 pub record Urgent (release : ℕ) (words : List ℕ) (becomes : ℕ) : Type 0 where
   pub made : Made story (bytes_of "priority") release 1 words
-  pub over : place_of board Set (address_in words) 4 ≡ At 16
+  pub over : place_of board Set (address_in words) 4 ≡ Some 16
   pub stands : StandsAt (in_flash words) cleared (image_of words) words
   pub awaits : Awaits on_line cleared
   pub numbers : (is_spent (in_flash words).totals ≡ false) × (is_spent on_line.tally.totals ≡ false)

@@ -1,36 +1,36 @@
 -- What a ward may rely on in a register that was read: each question has one answer, the two questions agree, and a command does what it says.
-use Rattle.std.specs.Prelude.{ℕ, ◌^◌, ◌≤◌, ◌<◌, max, true, false, ◌&&◌, List, [], ◌∷◌, ◌≡◌, eqb, length, get_or}
+use Rattle.std.specs.Prelude.{ℕ, ◌^◌, ◌≤◌, ◌<◌, max, true, false, ◌&&◌, List, [], ◌∷◌, ◌≡◌, eqb, length, get_or, Option, Some, None, unwrap_or, Ok, Err, IsErr, ok_or}
 use Rattle.words.specs.rules.Bits.{within}
 use Rattle.words.specs.rules.Bytes.{byte}
 use Rattle.words.specs.rules.Choice.{pick}
 use Rattle.windows.specs.rules.Window.{sum_of, place_of}
 use Rattle.windows.specs.declared.Window.{Window}
-use Rattle.windows.specs.declared.Place.TheVariants.{At}
 use Rattle.windows.specs.declared.Right.TheVariants.{Set}
-use Rattle.opcodes.specs.rules.Opcodes.{looked_up}
+use Rattle.opcodes.specs.rules.Opcodes.{looked_up, with_words}
 use Rattle.opcodes.specs.declared.Command.TheVariants.{BootTable}
-use Rattle.opcodes.specs.declared.Found.TheVariants.{Known}
 use Rattle.opcodes.specs.declared.Dialect.{Dialect}
 use Rattle.opcodes.specs.declared.Mode.{Mode}
+use Rattle.commands.specs.rules.Commands.{start_of, stop_of, setting_judged, setting_memory}
 use Rattle.opcodes.specs.declared.Refusal.TheVariants.{Range}
-use Rattle.commands.specs.rules.Commands.{start_of, stop_of, placed, setting_judged, setting_memory}
-use Rattle.commands.specs.declared.Judged.TheVariants.{Granted}
 use Rattle.law_effects.specs.claims.Fields.{NamesField, field_width, Holds}
 use Rattle.field_lines.specs.rules.Clashes.{in_force, has_bit, clash}
 use Rattle.field_lines.specs.rules.Lines.{no_line, in_order}
 use Rattle.field_lines.specs.rules.Text.{same}
 use Rattle.field_lines.specs.declared.FieldLine.{FieldLine}
 use Rattle.field_register.specs.rules.Commands.{command_for}
-use Rattle.field_register.specs.rules.Questions.{is_about, answers, found, none_found, asked, field_of, line_of_name, stretch_from}
-use Rattle.field_register.specs.rules.Reading.{lines_in, reading_of}
-use Rattle.field_register.specs.declared.FieldRefusal.TheVariants.{None}
-use Rattle.field_register.specs.declared.FoundLine.{FoundLine}
+use Rattle.field_register.specs.rules.Questions.{is_about, answers, asked, field_of, line_of_name, stretch_from}
+use Rattle.field_register.specs.rules.Reading.{Reading, kept, lines_in, reading_of}
 use Rattle.field_register.specs.declared.Register.{Register}
 use Rattle.field_register.specs.declared.Subject.{Subject}
 
--- the register of a text, empty where the text is refused
+-- the register that was read, empty where the text is refused
+abbrev pub register_in : Reading → Register
+register_in (Ok r) = r
+register_in (Err q) = kept []
+
+-- the register of a text
 abbrev pub register_of : List ℕ → Register
-register_of text = (reading_of text).register
+register_of text = register_in (reading_of text)
 
 -- its lines, and the one with a number from 0 on
 abbrev pub lines_of : List ℕ → List FieldLine
@@ -57,13 +57,13 @@ pub record OneAnswer : Type 0 where
       → answers s release (nth (lines_of text) i) ≡ true → answers s release (nth (lines_of text) j) ≡ true → i ≡ j
   -- so that line is the answer
   pub the_answer : (text : List ℕ) (s : Subject) (release i : ℕ) → i < length (lines_of text)
-      → answers s release (nth (lines_of text) i) ≡ true → asked (register_of text) s release ≡ found (nth (lines_of text) i)
+      → answers s release (nth (lines_of text) i) ≡ true → asked (register_of text) s release ≡ Some (nth (lines_of text) i)
   -- and 28 is given where no line answers
-  pub no_answer : (text : List ℕ) (s : Subject) (release i : ℕ) → i < length (lines_of text) → asked (register_of text) s release ≡ none_found
+  pub no_answer : (text : List ℕ) (s : Subject) (release i : ℕ) → i < length (lines_of text) → asked (register_of text) s release ≡ None
       → answers s release (nth (lines_of text) i) ≡ false
   -- a refused text leaves no line, so every question is answered with 28
-  pub refused : (text : List ℕ) → ((reading_of text).refusal ≡ None → ⊥) → lines_of text ≡ []
-  pub refused_none : (text : List ℕ) (s : Subject) (release : ℕ) → ((reading_of text).refusal ≡ None → ⊥) → asked (register_of text) s release ≡ none_found
+  pub refused : (text : List ℕ) → IsErr (reading_of text) → lines_of text ≡ []
+  pub refused_none : (text : List ℕ) (s : Subject) (release : ℕ) → IsErr (reading_of text) → asked (register_of text) s release ≡ None
 
 -- a stretch of releases that begins at a release, up to its last one or with no end, has one answer
 pub record StretchMeans : Type 0 where
@@ -76,9 +76,9 @@ abbrev pub LaterThanAny : List FieldLine → ℕ → Type 0
 LaterThanAny ls release = (i : ℕ) → i < length ls → ((nth ls i).since < release) × ((nth ls i).until < release)
 
 -- the first of some lines that is about a subject and still in force
-unfoldable pub still_in_force : Subject → List FieldLine → FoundLine
-still_in_force s [] = none_found
-still_in_force s (l ∷ ls) = pick (is_about s l && eqb l.until 0) (found l) (still_in_force s ls)
+unfoldable pub still_in_force : Subject → List FieldLine → Option FieldLine
+still_in_force s [] = None
+still_in_force s (l ∷ ls) = pick (is_about s l && eqb l.until 0) (Some l) (still_in_force s ls)
 
 -- a release later than any named is answered by the fields still in force
 pub record LaterReleases : Type 0 where
@@ -102,7 +102,7 @@ writes_bit words word bit = (word ≡ address_in words) × (within (start_of (ki
 
 -- the command that was made for a name, a release and a value
 pub record Made (text name : List ℕ) (release value : ℕ) (words : List ℕ) : Type 0 where
-  pub made : command_for (register_of text) name release value ≡ record { refusal = None; words = words }
+  pub made : command_for (register_of text) name release value ≡ Ok words
 
 pub record QuestionsAgree : Type 0 where
   -- every bit that it writes is that field in that release
@@ -114,7 +114,7 @@ pub record QuestionsAgree : Type 0 where
 
 -- the line that a name is in a release
 abbrev pub line_named : List ℕ → List ℕ → ℕ → FieldLine
-line_named text name release = (line_of_name (register_of text) name release).line
+line_named text name release = unwrap_or (line_of_name (register_of text) name release) no_line
 
 -- five words of 32 bits: the opcode, which is Boot Table in either mode and dialect; a type word that names a field, of kind 3, with the line's START and
 -- STOP; the line's word, the value, and delay 0
@@ -122,7 +122,7 @@ pub record IsBootTable (l : FieldLine) (value : ℕ) (words : List ℕ) : Type 0
   pub five : length words ≡ 5
   pub small : (i : ℕ) → get_or words i 0 < 2 ^ 32
   pub opcode : get_or words 0 0 ≡ 0x58535907
-  pub in_table : (mode : Mode) (dialect : Dialect) → looked_up (get_or words 0 0) mode dialect ≡ Known BootTable 4
+  pub in_table : (mode : Mode) (dialect : Dialect) → looked_up (get_or words 0 0) mode dialect ≡ Ok (with_words BootTable 4)
   pub names_field : NamesField (kind_in words)
   pub kind : byte (kind_in words) 0 ≡ 3
   pub start : start_of (kind_in words) ≡ l.start
@@ -136,10 +136,10 @@ pub record DoesWhatItSays : Type 0 where
       → IsBootTable (line_named text name release) value words
   -- a loader judges it by the windows over the word alone: 7 where none lets it be set
   pub by_window : (text name : List ℕ) (release value : ℕ) (words : List ℕ) → Made text name release value words → (windows : List Window)
-      → setting_judged windows (kind_in words) (address_in words) value ≡ placed Range (place_of windows Set (address_in words) 4)
+      → setting_judged windows (kind_in words) (address_in words) value ≡ ok_or (place_of windows Set (address_in words) 4) Range
   -- on a loader with a set window over the word it is accepted; the field then holds the value, and every other bit is kept
   pub accepted : (text name : List ℕ) (release value : ℕ) (words : List ℕ) → Made text name release value words
       → (windows : List Window) (memory : List ℕ) (place : ℕ) → length memory ≡ sum_of windows
-      → place_of windows Set (address_in words) 4 ≡ At place
-      → (setting_judged windows (kind_in words) (address_in words) value ≡ Granted place)
-      × Holds (kind_in words) place value memory (setting_memory (Granted place) memory (kind_in words) value)
+      → place_of windows Set (address_in words) 4 ≡ Some place
+      → (setting_judged windows (kind_in words) (address_in words) value ≡ Ok place)
+      × Holds (kind_in words) place value memory (setting_memory (Ok place) memory (kind_in words) value)

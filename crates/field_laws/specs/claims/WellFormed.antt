@@ -1,5 +1,5 @@
 -- A well-formed line, written out from what it names. Every such line is read, and what is read is such a line; so is a text.
-use Rattle.std.specs.Prelude.{ℕ, zero, suc, ◌+◌, ◌-◌, ◌/◌, ◌%◌, ◌^◌, ◌≤◌, ◌<◌, true, false, List, [], ◌∷◌, ◌++◌, map, ◌≡◌, ltb, length, get_or, drop, replicate}
+use Rattle.std.specs.Prelude.{ℕ, zero, suc, ◌+◌, ◌-◌, ◌/◌, ◌%◌, ◌^◌, ◌≤◌, ◌<◌, false, List, [], ◌∷◌, ◌++◌, map, ◌≡◌, ltb, length, get_or, drop, replicate, Some, IsOk}
 use Prim.Native.Char.{code}
 use Rattle.words.specs.rules.Choice.{pick}
 use Rattle.digits.specs.rules.Digits.{digit_of}
@@ -11,7 +11,6 @@ use Rattle.field_lines.specs.rules.Text.{bytes_of}
 use Rattle.field_lines.specs.declared.FieldLine.{FieldLine}
 use Rattle.field_lines.specs.declared.Parsed.{Parsed}
 use Rattle.field_register.specs.rules.Reading.{most_lines, read_as, reading_of}
-use Rattle.field_register.specs.declared.FieldRefusal.TheVariants.{None}
 use Rattle.field_laws.specs.claims.Meanings.{nth, lines_of}
 
 -- a number written with at most so many decimal digits: its last digit behind those of the rest, and no zero before them
@@ -71,12 +70,12 @@ pub data TextOf : List FieldLine → List ℕ → Type 0 where
 pub record ReadsWellFormed : Type 0 where
   -- a well-formed line is read, wherever it stands
   pub line_read : (before line after : List ℕ) (l : FieldLine) → WellFormed l line
-      → line_at (before ++ line ++ after) (length before) ≡ record { good = true; line = l; next = length before + length line }
+      → line_at (before ++ line ++ after) (length before) ≡ Some (record { line = l; next = length before + length line })
   -- and what is read as a line is one
-  pub line_written : (text : List ℕ) (at : ℕ) → (line_at text at).good ≡ true → Stands text at (line_at text at)
+  pub line_written : (text : List ℕ) (at : ℕ) (p : Parsed) → line_at text at ≡ Some p → Stands text at p
   -- up to 200 well-formed lines of which no two clash are read
   pub text_read : (ls : List FieldLine) (text : List ℕ) → TextOf ls text → length ls ≤ most_lines
       → ((i j : ℕ) → i < j → j < length ls → clash (nth ls i) (nth ls j) ≡ false) → reading_of text ≡ read_as ls
   -- and a text that is read is such lines
-  pub text_written : (text : List ℕ) → (reading_of text).refusal ≡ None → TextOf (lines_of text) text
+  pub text_written : (text : List ℕ) → IsOk (reading_of text) → TextOf (lines_of text) text
   pub text_counted : (text : List ℕ) → length (lines_of text) ≤ most_lines

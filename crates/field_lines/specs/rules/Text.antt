@@ -1,11 +1,9 @@
 -- What the bytes of a text say by themselves: literal text, numbers, letters and names.
-use Rattle.std.specs.Prelude.{ℕ, ◌-◌, Bool, true, false, not, ◌&&◌, List, [], ◌∷◌, ◌++◌, leb, ltb, eqb, length, get_or, take, drop, replicate}
+use Rattle.std.specs.Prelude.{ℕ, ◌-◌, Bool, true, not, ◌&&◌, List, [], ◌∷◌, ◌++◌, leb, ltb, eqb, length, get_or, take, drop, replicate, Option, Some, None, bytes_eq}
 use Prim.Native.Char.{code}
 use Prim.Native.String.{String, [] as nothing, ◌∷◌ as ◌before◌}
 use Rattle.words.specs.rules.Choice.{pick}
 use Rattle.digits.specs.rules.Numbers.{are_digits, number_of, number_if}
-use Rattle.digits.specs.declared.Number.{Number}
-use Rattle.field_lines.specs.declared.Name.{Name}
 
 -- the bytes of a literal
 abbrev pub bytes_of : String → List ℕ
@@ -18,10 +16,7 @@ part text from to = take (to - from) (drop from text)
 
 -- are they the same bytes?
 unfoldable pub same : List ℕ → List ℕ → Bool
-same [] [] = true
-same [] (b ∷ bs) = false
-same (a ∷ as₁) [] = false
-same (a ∷ as₁) (b ∷ bs) = eqb a b && same as₁ bs
+same a b = bytes_eq a b
 
 -- is a byte one of a stretch of characters?
 abbrev pub between : ℕ → ℕ → ℕ → Bool
@@ -36,14 +31,14 @@ unfoldable pub is_decimal : List ℕ → Bool
 is_decimal s = ltb 0 (length s) && are_digits 10 s && not (zero_leads s)
 
 -- such a number in a range
-abbrev pub decimal_of : ℕ → ℕ → List ℕ → Number
+abbrev pub decimal_of : ℕ → ℕ → List ℕ → Option ℕ
 decimal_of least most s = number_if (is_decimal s && between least most (number_of 10 s)) (number_of 10 s)
 
 -- ADDR: eight hexadecimal digits
 unfoldable pub is_address : List ℕ → Bool
 is_address s = eqb (length s) 8 && are_digits 16 s
 
-abbrev pub address_of : List ℕ → Number
+abbrev pub address_of : List ℕ → Option ℕ
 address_of s = number_if (is_address s) (number_of 16 s)
 
 -- are all bytes small letters?
@@ -59,9 +54,6 @@ is_name s = between 1 16 (length s) && are_letters s
 unfoldable pub padded : List ℕ → List ℕ
 padded s = s ++ replicate (16 - length s) 0
 
--- the name that bytes are; 16 zeros where they are none
-abbrev pub no_name : Name
-no_name = record { good = false; name = replicate 16 0 }
-
-unfoldable pub name_of : List ℕ → Name
-name_of s = pick (is_name s) (record { good = true; name = padded s }) no_name
+-- the name that bytes are
+unfoldable pub name_of : List ℕ → Option (List ℕ)
+name_of s = pick (is_name s) (Some (padded s)) None

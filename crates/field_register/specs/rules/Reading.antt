@@ -1,12 +1,13 @@
 -- A text read into a register: line by line, up to the first that is refused.
-use Rattle.std.specs.Prelude.{ℕ, zero, suc, ◌+◌, ◌-◌, Bool, false, not, ◌||◌, List, [], ◌∷◌, ◌++◌, leb, length, take, replicate}
+use Rattle.std.specs.Prelude.{ℕ, zero, suc, ◌+◌, ◌-◌, Bool, false, ◌||◌, List, [], ◌∷◌, ◌++◌, leb, length, take, replicate, Result, Ok, Err}
+use Rattle.std.specs.Option.{option_map_or}
 use Rattle.words.specs.rules.Choice.{pick}
 use Rattle.field_lines.specs.rules.Clashes.{clash}
 use Rattle.field_lines.specs.rules.Lines.{no_line, line_at}
 use Rattle.field_lines.specs.declared.FieldLine.{FieldLine}
-use Rattle.field_register.specs.declared.Reading.{Reading}
 use Rattle.field_register.specs.declared.FieldRefusal.{FieldRefusal}
-use Rattle.field_register.specs.declared.FieldRefusal.TheVariants.{None, Malformed, Clash}
+use Rattle.field_register.specs.declared.FieldRefusal.TheVariants.{Malformed, Clash}
+use Rattle.field_register.specs.declared.RefusedText.{RefusedText}
 use Rattle.field_register.specs.declared.Register.{Register}
 
 -- the most lines of a register
@@ -21,13 +22,15 @@ kept ls = record { count = length ls; lines = ls ++ replicate (most_lines - leng
 unfoldable pub lines_in : Register → List FieldLine
 lines_in r = take r.count r.lines
 
--- a text that was read
-abbrev pub read_as : List FieldLine → Reading
-read_as ls = record { refusal = None; line = 0; register = kept ls }
+-- what becomes of a text: it is read, or refused at a line
+abbrev pub Reading : Type 0
+Reading = Result Register RefusedText
 
--- one that was refused at a line: the register is left empty
+abbrev pub read_as : List FieldLine → Reading
+read_as ls = Ok (kept ls)
+
 abbrev pub refused_at : FieldRefusal → ℕ → Reading
-refused_at q line = record { refusal = q; line = line; register = kept [] }
+refused_at q line = Err (record { refusal = q; line = line })
 
 -- does a line clash with an earlier one?
 unfoldable pub clashes : List FieldLine → FieldLine → Bool
@@ -39,9 +42,8 @@ unfoldable pub read_from : ℕ → List FieldLine → List ℕ → ℕ → Readi
 read_from zero ls text at = pick (leb (length text) at) (read_as ls) (refused_at Malformed (length ls + 1))
 read_from (suc allowed) ls text at =
     pick (leb (length text) at) (read_as ls)
-    (pick (not (line_at text at).good) (refused_at Malformed (length ls + 1))
-    (pick (clashes ls (line_at text at).line) (refused_at Clash (length ls + 1))
-    (read_from allowed (ls ++ (line_at text at).line ∷ []) text (line_at text at).next)))
+    (option_map_or (λ p. pick (clashes ls p.line) (refused_at Clash (length ls + 1)) (read_from allowed (ls ++ p.line ∷ []) text p.next))
+    (line_at text at) (refused_at Malformed (length ls + 1)))
 
 -- the whole text
 abbrev pub reading_of : List ℕ → Reading

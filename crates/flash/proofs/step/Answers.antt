@@ -43,7 +43,7 @@ pub overflow_add-next : goal.overflow_add-next
 overflow_add-next c =
     let a = c.args in
     let there = whole_there a.image.now a.session.offset a.session.dialect
-    (sym c.read_at-read.ensures ∙ c.in-Whole.is) in
+    (sym c.in-Ok.ensures) in
     let small = image_small (length a.image.now) a.session.length
     (sym c.is_image.ensures ∙ c.if-not-is_image.false) in
     omega (arith, there, small)
@@ -52,25 +52,25 @@ pub overflow_mul-next : goal.overflow_mul-next
 overflow_mul-next c =
     let a = c.args in
     let there = whole_there a.image.now a.session.offset a.session.dialect
-    (sym c.read_at-read.ensures ∙ c.in-Whole.is) in
+    (sym c.in-Ok.ensures) in
     let small = image_small (length a.image.now) a.session.length
     (sym c.is_image.ensures ∙ c.if-not-is_image.false) in
     omega (arith, there, small)
 
-pub overflow_add-next-in-Whole : goal.overflow_add-next-in-Whole
-overflow_add-next-in-Whole c =
+pub overflow_add-next-in-Ok : goal.overflow_add-next-in-Ok
+overflow_add-next-in-Ok c =
     let a = c.args in
     let there = whole_there a.image.now a.session.offset a.session.dialect
-    (sym c.read_at-read.ensures ∙ c.in-Whole.is) in
+    (sym c.in-Ok.ensures) in
     let small = image_small (length a.image.now) a.session.length
     (sym c.is_image.ensures ∙ c.if-not-is_image.false) in
     omega (arith, there, small)
 
-pub overflow_add-words : goal.overflow_add-words
-overflow_add-words c =
+pub overflow_add-known : goal.overflow_add-known
+overflow_add-known c =
     let a = c.args in
     let there = whole_there a.image.now a.session.offset a.session.dialect
-    (sym c.read_at-read.ensures ∙ c.in-Whole.is) in
+    (sym c.in-Ok.ensures) in
     let small = image_small (length a.image.now) a.session.length
     (sym c.is_image.ensures ∙ c.if-not-is_image.false) in
     omega (arith, there, small)
@@ -79,32 +79,31 @@ pub perform-requires : goal.perform-requires
 perform-requires c =
     let a = c.args in
     let there = whole_there a.image.now a.session.offset a.session.dialect
-    (sym c.read_at-read.ensures ∙ c.in-Whole.is) in
+    (sym c.in-Ok.ensures) in
     let small = image_small (length a.image.now) a.session.length
     (sym c.is_image.ensures
     ∙ c.if-not-is_image.false) in
     omega (arith, small)
 
-pub returns-in-Refused : goal.returns-in-Refused
-returns-in-Refused c =
+pub returns-in-Err : goal.returns-in-Err
+returns-in-Err c =
     let a = c.args in
     let lent = c.if-memory-sum.false ∙ c.sum.ensures in
     let sound = sym c.is_image.ensures ∙ c.if-not-is_image.false in
     let running = c.if-session.false in
-    let read = sym c.read_at-read.ensures ∙ c.in-Refused.is in
+    let read = sym c.in-Err.ensures in
     let case = call_read a.session a.memory.now a.image.now running lent sound
     ∙ ap (followed a.session a.memory.now a.image.now) read in
     record { value = told case (rw c.fetch.ensures at c.halt.ensures); memory_after = left_in case refl }
 
-pub returns-in-Whole : goal.returns-in-Whole
-returns-in-Whole c =
+pub returns-in-Ok : goal.returns-in-Ok
+returns-in-Ok c =
     let a = c.args in
     let lent = c.if-memory-sum.false ∙ c.sum.ensures in
     let sound = sym c.is_image.ensures ∙ c.if-not-is_image.false in
     let running = c.if-session.false in
-    let read = sym c.read_at-read.ensures
-    ∙ c.in-Whole.is in
+    let read = sym c.in-Ok.ensures in
     let case = call_read a.session a.memory.now a.image.now running lent sound
     ∙ ap (followed a.session a.memory.now a.image.now) read in
-    let done = rw c.fetch-in-Whole.ensures at c.perform.ensures in
+    let done = rw c.fetch-fetched.ensures at c.perform.ensures in
     record { value = told case done.value; memory_after = left_in case done.memory_after }

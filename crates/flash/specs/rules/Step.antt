@@ -1,22 +1,20 @@
 -- One call of a flash session: one command, judged in the order of document 01.
-use Rattle.std.specs.Prelude.{ℕ, ◌+◌, ◌*◌, not, ◌&&◌, List, eqb, length}
+use Rattle.std.specs.Prelude.{ℕ, ◌+◌, ◌*◌, not, ◌&&◌, List, eqb, length, Some, Result, Ok, Err}
 use Rattle.words.specs.rules.Bytes.{bytes_at}
 use Rattle.words.specs.rules.Choice.{pick}
 use Rattle.windows.specs.rules.Window.{sum_of}
 use Rattle.opcodes.specs.declared.Command.{Command}
 use Rattle.opcodes.specs.declared.Command.TheVariants as command
 use Rattle.opcodes.specs.declared.Event.TheVariants.{Nothing}
-use Rattle.opcodes.specs.declared.Refusal.TheVariants as refusal
+use Rattle.opcodes.specs.rules.Refusals as refusal
+use Rattle.opcodes.specs.declared.Known.{Known}
 use Rattle.ledger.specs.rules.Totals.{is_spent}
 use Rattle.ledger.specs.declared.Happening.TheVariants as happening
 use Rattle.reading.specs.rules.Reading.{present, past_words, argument, data_words, read_at}
-use Rattle.reading.specs.declared.Read.{Read}
-use Rattle.reading.specs.declared.Read.TheVariants as read
-use Rattle.commands.specs.rules.Commands.{load_judged}
+use Rattle.reading.specs.declared.Unread.{Unread}
+use Rattle.commands.specs.rules.Commands.{load_judged, Judged}
 use Rattle.stores.specs.rules.Stores.{loaded, load_fed}
 use Rattle.commands.specs.rules.Wrote.{none_wrote, bytes_wrote}
-use Rattle.commands.specs.declared.Judged.{Judged}
-use Rattle.commands.specs.declared.Judged.TheVariants.{Granted, Refused}
 use Rattle.flash_session.specs.rules.Opening.{good_length}
 use Rattle.flash_session.specs.rules.Sessions.{CallOutcome, ◌leaving◌, go_to, switch_on, switch_off, fetching, unchanged, stopped, accepted_as}
 use Rattle.flash_session.specs.declared.Called.{Called}
@@ -28,7 +26,7 @@ use Rattle.flash_commands.specs.rules.Commands.{overflowing, fill_of, setting_of
 -- the answer to a load that is accepted at a place, with the checksum that its data leave: they are fetched, and the session goes on past them
 abbrev pub load_answer : Session → ℕ → ℕ → ℕ → ℕ → Called
 load_answer s next checksum size place =
-    accepted_as s (happening.Section size) (bytes_wrote (Granted place) size s.totals.next) Nothing
+    accepted_as s (happening.Section size) (bytes_wrote (Ok place) size s.totals.next) Nothing
     (go_to (fetching (data_words size) s) checksum (next + 4 * data_words size))
 
 -- such a load: its data are copied and fed
@@ -46,8 +44,8 @@ load_at s m image next address size place =
 
 -- a load by its judgement
 abbrev pub load_judged_as : Session → List ℕ → List ℕ → ℕ → ℕ → ℕ → Judged → CallOutcome
-load_judged_as s m image next address size (Granted place) = load_at s m image next address size place
-load_judged_as s m image next address size (Refused q) = stopped q s leaving m
+load_judged_as s m image next address size (Ok place) = load_at s m image next address size place
+load_judged_as s m image next address size (Err q) = stopped (Some q) s leaving m
 
 -- Load: 7, 18, then its data
 abbrev pub load_of : Session → List ℕ → List ℕ → ℕ → ℕ → ℕ → CallOutcome
@@ -70,9 +68,9 @@ performed command.Ping next s m image = stopped refusal.Opcode s leaving m
 performed command.SequentialRead next s m image = accepted_as s happening.Other none_wrote Nothing (go_to s s.checksum next) leaving m
 
 -- what was read at the session's offset, its words fetched: refused it ends the session, else the command is performed
-abbrev pub followed : Session → List ℕ → List ℕ → Read → CallOutcome
-followed s m image (read.Refused q fetched) = stopped q (fetching fetched s) leaving m
-followed s m image (read.Whole command words) = performed command (past_words s.offset words) (fetching (1 + words) s) m image
+abbrev pub followed : Session → List ℕ → List ℕ → Result Known Unread → CallOutcome
+followed s m image (Err said) = stopped (Some said.refusal) (fetching said.fetched s) leaving m
+followed s m image (Ok known) = performed known.command (past_words s.offset known.words) (fetching (1 + known.words) s) m image
 
 -- a call: 14, 2, 3, then what stands at the session's offset
 unfoldable pub step_of : Session → List ℕ → List ℕ → CallOutcome

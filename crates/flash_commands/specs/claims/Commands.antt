@@ -1,11 +1,10 @@
 -- Each command but Load goes one of the ways of a call, once its opcode and its argument words are fetched.
-use Rattle.std.specs.Prelude.{ℕ, ◌+◌, ◌≤◌, false, List, ◌≡◌, length}
+use Rattle.std.specs.Prelude.{ℕ, ◌+◌, ◌≤◌, false, List, ◌≡◌, length, Ok}
 use Rattle.words.specs.rules.Bytes.{word_at}
-use Rattle.opcodes.specs.rules.Opcodes.{looked_up}
+use Rattle.opcodes.specs.rules.Opcodes.{looked_up, with_words}
 use Rattle.opcodes.specs.declared.Command.{Command}
 use Rattle.opcodes.specs.declared.Command.TheVariants.{Fill, BootTable, Enable, Disable, Request, JumpAndClose, SequentialRead}
 use Rattle.opcodes.specs.declared.Event.TheVariants.{Nothing}
-use Rattle.opcodes.specs.declared.Found.TheVariants.{Known}
 use Rattle.opcodes.specs.declared.Mode.TheVariants.{Flash}
 use Rattle.ledger.specs.declared.Happening.TheVariants as happened
 use Rattle.reading.specs.rules.Reading.{past_words, argument}
@@ -19,7 +18,7 @@ use Rattle.flash_commands.specs.claims.Ways.{Call}
 pub record Ready (s : Session) (image : List ℕ) (command : Command) (arguments : ℕ) : Type 0 where
   pub running : s.ended ≡ false
   pub lent : length image ≡ s.length
-  pub row : looked_up (word_at image s.offset) Flash s.dialect ≡ Known command arguments
+  pub row : looked_up (word_at image s.offset) Flash s.dialect ≡ Ok (with_words command arguments)
   pub there : past_words s.offset arguments ≤ length image
 
 -- the session with its opcode and n argument words fetched, and the offset past them

@@ -1,17 +1,16 @@
 -- The ways of a call: the offset goes forward past the words of the command, back for a retry, or is kept.
-use Rattle.std.specs.Prelude.{ℕ, ◌+◌, ◌*◌, ◌%◌, ◌≤◌, ◌<◌, min, Bool, true, false, ◌||◌, List, ◌≢◌, ◌≡◌, eqb, length}
+use Rattle.opcodes.specs.declared.Refusal.{Refusal}
+use Rattle.std.specs.Prelude.{ℕ, ◌+◌, ◌*◌, ◌%◌, ◌≤◌, ◌<◌, min, Bool, true, false, ◌||◌, List, ◌≢◌, ◌≡◌, eqb, length, Result, Ok, Err}
 use Rattle.words.specs.rules.Bytes.{word_at}
 use Rattle.words.specs.rules.Choice.{pick}
-use Rattle.opcodes.specs.rules.Answers.{code_of, kind_of}
-use Rattle.opcodes.specs.rules.Opcodes.{looked_up}
+use Rattle.opcodes.specs.rules.Answers.{code_of, kind_of, accepted}
+use Rattle.opcodes.specs.rules.Opcodes.{looked_up, with_words}
 use Rattle.opcodes.specs.declared.Command.{Command}
 use Rattle.opcodes.specs.declared.Command.TheVariants.{Load, Fill, BootTable, Enable, Disable, Request, StartOver, JumpAndClose, Ping, SequentialRead}
 use Rattle.opcodes.specs.declared.Event.TheVariants.{Nothing}
-use Rattle.opcodes.specs.declared.Found.{Found}
-use Rattle.opcodes.specs.declared.Found.TheVariants.{Known, Retired, Unknown}
 use Rattle.opcodes.specs.declared.Mode.TheVariants.{Flash}
-use Rattle.opcodes.specs.declared.Refusal.{Refusal}
-use Rattle.opcodes.specs.declared.Refusal.TheVariants.{None}
+use Rattle.opcodes.specs.rules.Refusals.{Verdict, None}
+use Rattle.opcodes.specs.declared.Known.{Known}
 use Rattle.ledger.specs.claims.Booked.{Room}
 use Rattle.ledger.specs.rules.Totals.{standing, differs, in_flash}
 use Rattle.ledger.specs.declared.Happening.{Happening}
@@ -27,10 +26,9 @@ abbrev pub data_words_of : Command → Session → List ℕ → ℕ
 data_words_of command s image = data_words (data_size command image s.offset)
 
 -- the argument words of what the table finds
-abbrev pub argument_words : Found → ℕ
-argument_words Unknown = 0
-argument_words Retired = 0
-argument_words (Known command words) = words
+abbrev pub argument_words : Result Known Refusal → ℕ
+argument_words (Err q) = 0
+argument_words (Ok known) = known.words
 
 -- the totals that a close names: sections, then bytes
 abbrev pub named : Session → List ℕ → Standing
@@ -58,7 +56,7 @@ met s image =
 -- data
 pub record Reads (s : Session) (image : List ℕ) (command : Command) (words : ℕ) : Type 0 where
   pub arguments : ℕ
-  pub row : looked_up (word_at image s.offset) Flash s.dialect ≡ Known command arguments
+  pub row : looked_up (word_at image s.offset) Flash s.dialect ≡ Ok (with_words command arguments)
   pub count : words ≡ 1 + arguments + data_words_of command s image
   pub present : s.offset + 4 * words ≤ length image
   pub lent : length image ≡ s.length
@@ -96,7 +94,7 @@ pub record Back (s : Session) (image : List ℕ) (a : Called) : Type 0 where
   pub running : a.session.ended ≡ false
 
 -- 2, 3 and 14 spare the session
-abbrev pub spares : Refusal → Bool
+abbrev pub spares : Verdict → Bool
 spares q = eqb (code_of q) 2 || eqb (code_of q) 3 || eqb (code_of q) 14
 
 -- refused: the offset, the retries and the totals are kept; a session that is spared is as it was, any other has fetched the words that are there, and is ended

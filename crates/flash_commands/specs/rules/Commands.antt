@@ -1,16 +1,14 @@
 -- What each command but Load comes to in a flash session, judged in the order of document 01.
-use Rattle.std.specs.Prelude.{ℕ, List, leb, eqb}
+use Rattle.std.specs.Prelude.{ℕ, List, leb, eqb, Some, Ok, Err}
 use Rattle.words.specs.rules.Choice.{pick}
 use Rattle.opcodes.specs.declared.Event.TheVariants.{Nothing}
-use Rattle.opcodes.specs.declared.Refusal.TheVariants as refusal
+use Rattle.opcodes.specs.declared.Refusal.TheVariants as why
+use Rattle.opcodes.specs.rules.Refusals as refusal
 use Rattle.ledger.specs.rules.Totals.{standing, would_pass, differs, is_spent}
 use Rattle.ledger.specs.declared.Happening.TheVariants as happening
 use Rattle.commands.specs.rules.Commands.{barred, fill_judged, fill_done, fill_memory}
-use Rattle.commands.specs.rules.Commands.{setting_judged, setting_done, setting_memory, entry_judged, close_done, sought_from}
+use Rattle.commands.specs.rules.Commands.{setting_judged, setting_done, setting_memory, entry_judged, close_done, sought_from, Judged, Sought}
 use Rattle.commands.specs.rules.Wrote.{none_wrote, bytes_wrote, setting_wrote}
-use Rattle.commands.specs.declared.Judged.{Judged}
-use Rattle.commands.specs.declared.Sought.{Sought}
-use Rattle.commands.specs.declared.Sought.TheVariants as sought
 use Rattle.flash_session.specs.rules.Sessions.{CallOutcome, ◌leaving◌, stop, go_to, go_back, stopped, accepted_as, after}
 use Rattle.flash_session.specs.declared.Called.{Called}
 use Rattle.flash_session.specs.declared.Session.{Session}
@@ -19,11 +17,11 @@ use Rattle.flash_session.specs.declared.Session.{Session}
 
 -- 18, of a load or a fill of so many bytes that was judged
 abbrev pub overflowing : Session → ℕ → Judged → Judged
-overflowing s size judged = barred (would_pass s.dialect s.totals size) refusal.Overflow judged
+overflowing s size judged = barred (would_pass s.dialect s.totals size) why.Overflow judged
 
 -- 25, of a command that was judged
 abbrev pub out_of_numbers : Session → Judged → Judged
-out_of_numbers s judged = barred (is_spent s.totals) refusal.Number judged
+out_of_numbers s judged = barred (is_spent s.totals) why.Number judged
 
 -- a fill by its judgement
 abbrev pub fill_judged_as : Session → List ℕ → ℕ → ℕ → ℕ → ℕ → ℕ → Judged → CallOutcome
@@ -49,8 +47,8 @@ setting_of s m next word address value delay =
 
 -- a mismatch by where its seek leads: one retry is counted, or 12; the checksum becomes 0 either way
 abbrev pub sought_as : Session → Sought → Called
-sought_as s (sought.To offset) = accepted_as s happening.Retried none_wrote Nothing (go_back s offset)
-sought_as s (sought.Refused q) = stopped q (go_to s 0 s.offset)
+sought_as s (Ok offset) = accepted_as s happening.Retried none_wrote Nothing (go_back s offset)
+sought_as s (Err q) = stopped (Some q) (go_to s 0 s.offset)
 
 -- Request: a match goes on; a mismatch with retries spent is 11; else the seek. The checksum becomes 0 in each case
 unfoldable pub requested : Session → ℕ → ℕ → ℕ → Called
@@ -69,5 +67,5 @@ closed s next address sections bytes =
     entered
     (after s happening.Other none_wrote
     (close_done
-    (barred (differs s.dialect s.totals (standing sections bytes)) refusal.Totals (entry_judged s.windows address)) s.checksum address)
+    (barred (differs s.dialect s.totals (standing sections bytes)) why.Totals (entry_judged s.windows address)) s.checksum address)
     next)

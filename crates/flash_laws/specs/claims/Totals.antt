@@ -1,13 +1,13 @@
 -- The totals of a flash session: what they count, what an entry says of them, and that AM17xx has nothing of them.
-use Rattle.std.specs.Prelude.{ℕ, false, List, [], ◌∷◌, ◌++◌, ◌≡◌}
+use Rattle.std.specs.Prelude.{ℕ, false, List, [], ◌∷◌, ◌++◌, ◌≡◌, Result, Ok, Err}
 use Rattle.words.specs.rules.Bytes.{word_at}
 use Rattle.words.specs.rules.Choice.{pick}
 use Rattle.opcodes.specs.rules.Answers.{accepted, kind_of}
 use Rattle.opcodes.specs.rules.Opcodes.{looked_up}
 use Rattle.opcodes.specs.declared.Dialect.TheVariants.{Am17xx, Dm648}
-use Rattle.opcodes.specs.declared.Found.{Found}
-use Rattle.opcodes.specs.declared.Found.TheVariants.{Known, Retired, Unknown}
 use Rattle.opcodes.specs.declared.Mode.TheVariants.{Flash}
+use Rattle.opcodes.specs.declared.Known.{Known}
+use Rattle.opcodes.specs.declared.Refusal.{Refusal}
 use Rattle.ledger.specs.claims.Agreement.{plus, Zero}
 use Rattle.ledger.specs.rules.Totals.{nothing, at_opening, numbered_as}
 use Rattle.ledger.specs.declared.Happening.{Happening}
@@ -40,10 +40,9 @@ sizes_in happened.Retried = []
 sizes_in happened.Other = []
 
 -- so of what the table finds
-abbrev pub sizes_found : Found → ℕ → List ℕ
-sizes_found Unknown size = []
-sizes_found Retired size = []
-sizes_found (Known command arguments) size = sizes_in (happening command size)
+abbrev pub sizes_found : Result Known Refusal → ℕ → List ℕ
+sizes_found (Err q) size = []
+sizes_found (Ok known) size = sizes_in (happening known.command size)
 
 -- the size of the load or fill that a call accepts, where it accepts one
 unfoldable pub accepted_in : Session → Lent → List ℕ

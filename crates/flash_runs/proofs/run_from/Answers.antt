@@ -2,8 +2,8 @@
 use mathlib.Core.List.{List}
 use mathlib.Core.Path.{sym, ap, ◌∙◌}
 use lib.ListN.{length}
-use borrow.Author.Tests.{eq-eqb, ne_eqb}
 use Rattle.words.proofs.Choice.{chosen, passed}
+use Rattle.opcodes.proofs.Verdicts.{accepted_by}
 use Rattle.opcodes.specs.declared.Event.{Event}
 use Rattle.event_room.specs.rules.Room.{place_after, room_after}
 use Rattle.flash_session.specs.rules.Sessions.{CallOutcome}
@@ -12,11 +12,11 @@ use Rattle.flash_runs.specs.rules.Events.{events_from}
 use Rattle.flash_runs.specs.rules.Run.{ran_from}
 use Rattle.flash_runs.proofs.run_from.Goals as goal
 
-pub returns-then-code-eq0 : goal.returns-then-code-eq0
+pub returns-then-is_none : goal.returns-then-is_none
 unfolding ran_from stamps_from events_from
-returns-then-code-eq0 c =
+returns-then-is_none c =
     let a = c.args in
-    let opens = eq-eqb _ _ (sym c.code.ensures ∙ c.if-code-eq0.true) in
+    let opens = accepted_by _ c.is_none.ensures c.if-is_none.true in
     let whole = sym (chosen _ _ _ opens) in
     let events = sym (chosen _ _ _ opens) in
     let room = a.room.now in
@@ -34,7 +34,7 @@ pub returns : goal.returns
 unfolding ran_from stamps_from events_from place_after room_after
 returns c =
     let room = c.args.room.now in
-    let refused = ne_eqb _ _ (λ e. c.if-code-eq0.false (c.code.ensures ∙ e)) in
+    let refused = accepted_by _ c.is_none.ensures c.if-is_none.false in
     let none = sym (passed _ _ _ refused) in
     let events = sym (passed _ _ _ refused) in
     record {

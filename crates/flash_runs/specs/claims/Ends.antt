@@ -1,14 +1,14 @@
 -- How a run ends: no run stops while its session goes on.
 use Rattle.std.specs.Prelude.{ℕ, ◌≤◌, true, false, List, ◌≢◌, ◌≡◌}
 use Rattle.opcodes.specs.rules.Answers.{code_of, kind_of}
-use Rattle.opcodes.specs.declared.Refusal.{Refusal}
+use Rattle.opcodes.specs.rules.Refusals.{Verdict}
 use Rattle.flash.specs.rules.Step.{step_of}
 use Rattle.flash_session.specs.declared.Called.{Called}
 use Rattle.flash_session.specs.declared.Session.{Session}
 use Rattle.flash_runs.specs.rules.Run.{goes_on, carried_on, enough, run_of}
 
 -- is it a refusal, and not 14?
-abbrev pub Refuses : Refusal → Type 0
+abbrev pub Refuses : Verdict → Type 0
 Refuses q = (code_of q ≢ 0) × (code_of q ≢ 14)
 
 -- the two ends of a run: entering, which ends the session, or a refusal other than 14

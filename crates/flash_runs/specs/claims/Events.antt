@@ -1,14 +1,14 @@
 -- What the events of a flash run are: the waits of its accepted settings in order, and last the entry, exactly where the run enters.
-use Rattle.std.specs.Prelude.{ℕ, zero, suc, ◌≤◌, List, [], ◌∷◌, ◌++◌, ◌≡◌, length}
+use Rattle.std.specs.Prelude.{ℕ, zero, suc, ◌≤◌, List, [], ◌∷◌, ◌++◌, ◌≡◌, length, Result, Ok, Err}
 use Rattle.words.specs.rules.Choice.{pick}
 use Rattle.windows.specs.declared.Window.{Window}
 use Rattle.opcodes.specs.rules.Answers.{accepted}
 use Rattle.opcodes.specs.rules.Opcodes.{by_writing}
 use Rattle.opcodes.specs.declared.Dialect.{Dialect}
 use Rattle.opcodes.specs.declared.Event.TheVariants.{Enter}
+use Rattle.opcodes.specs.declared.Known.{Known}
 use Rattle.reading.specs.rules.Reading.{argument, read_at}
-use Rattle.reading.specs.declared.Read.{Read}
-use Rattle.reading.specs.declared.Read.TheVariants as read
+use Rattle.reading.specs.declared.Unread.{Unread}
 use Rattle.flash.specs.rules.Step.{step_of}
 use Rattle.flash_session.specs.rules.Opening.{opened_by}
 use Rattle.flash_session.specs.declared.Called.{Called}
@@ -18,9 +18,9 @@ use Rattle.flash_runs.specs.rules.Events.{waits_of, last_of, events_from, most_e
 use Rattle.flash_runs.specs.rules.Run.{goes_on, enough, opens, ran_from}
 
 -- the delay of a setting, its fourth word; of any other command none
-abbrev pub delay_of : List ℕ → ℕ → Read → List ℕ
-delay_of image offset (read.Refused q fetched) = []
-delay_of image offset (read.Whole command words) = by_writing command [] [] (argument image offset 3 ∷ []) []
+abbrev pub delay_of : List ℕ → ℕ → Result Known Unread → List ℕ
+delay_of image offset (Err said) = []
+delay_of image offset (Ok known) = by_writing known.command [] [] (argument image offset 3 ∷ []) []
 
 -- the delay of the command at the session's offset, where it is a setting and accepted
 abbrev pub setting_delay : Session → List ℕ → Called → List ℕ

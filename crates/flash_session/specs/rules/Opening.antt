@@ -7,8 +7,8 @@ use Rattle.windows.specs.declared.Window.{Window}
 use Rattle.opcodes.specs.rules.Answers.{accepted}
 use Rattle.opcodes.specs.declared.Dialect.{Dialect}
 use Rattle.opcodes.specs.declared.Dialect.TheVariants.{Am17xx}
-use Rattle.opcodes.specs.declared.Refusal.{Refusal}
-use Rattle.opcodes.specs.declared.Refusal.TheVariants.{None, Map, Image, Magic}
+use Rattle.opcodes.specs.rules.Refusals.{Verdict}
+use Rattle.opcodes.specs.rules.Refusals.{None, Map, Image, Magic}
 use Rattle.ledger.specs.rules.Totals.{at_opening, from_one}
 use Rattle.commands.specs.rules.Commands.{multiple}
 use Rattle.flash_session.specs.rules.Sessions.{with_totals}
@@ -27,7 +27,7 @@ abbrev pub magic : ℕ
 magic = 0x41504954
 
 -- a refused opening gives a session of AM17xx that is ended, all else of it zero or off but the count of words fetched
-abbrev pub refused_by : Refusal → ℕ → Opened
+abbrev pub refused_by : Verdict → ℕ → Opened
 refused_by q fetched =
     record {
       refusal = q;

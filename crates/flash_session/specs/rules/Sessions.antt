@@ -4,8 +4,8 @@ use Rattle.words.specs.rules.Choice.{pick}
 use Rattle.opcodes.specs.rules.Answers.{accepted}
 use Rattle.opcodes.specs.declared.Event.{Event}
 use Rattle.opcodes.specs.declared.Event.TheVariants.{Nothing}
-use Rattle.opcodes.specs.declared.Refusal.{Refusal}
-use Rattle.opcodes.specs.declared.Refusal.TheVariants.{None}
+use Rattle.opcodes.specs.rules.Refusals.{Verdict}
+use Rattle.opcodes.specs.rules.Refusals.{None}
 use Rattle.ledger.specs.rules.Totals.{in_flash}
 use Rattle.ledger.specs.declared.Happening.{Happening}
 use Rattle.ledger.specs.declared.Totals.{Totals}
@@ -65,11 +65,11 @@ abbrev pub fetching : ℕ → Session → Session
 fetching n s = changed s s.ended s.on s.checksum s.offset s.retries (counted_on s.fetched n) s.totals
 
 -- refused, the session unchanged; no offset is reported
-abbrev pub unchanged : Refusal → Session → Called
+abbrev pub unchanged : Verdict → Session → Called
 unchanged q s = record { refusal = q; event = Nothing; at = 0; session = s; wrote = none_wrote }
 
 -- refused at the opcode: the session is ended, nothing else of it changes
-abbrev pub stopped : Refusal → Session → Called
+abbrev pub stopped : Verdict → Session → Called
 stopped q s = record { refusal = q; event = Nothing; at = s.offset; session = stop s; wrote = none_wrote }
 
 -- accepted, with what happened, what was written and an event: the session s goes on as t, its totals turned

@@ -6,26 +6,25 @@ use Rattle.hex_text.specs.rules.Text.{all_digits}
 use Rattle.hex_text.proofs.Texts.{looked}
 use Rattle.hex_text.proofs.is_text.Goals as goal
 
-pub loop-i-init : goal.loop-i-init
-loop-i-init c = (omega arith, refl)
+pub loop-character-init : goal.loop-character-init
+loop-character-init c = refl
 
-pub loop-i-preserved : goal.loop-i-preserved
+pub loop-character-preserved : goal.loop-character-preserved
 unfolding are_digits
-loop-i-preserved c =
-    let l = c.loop-i in
+loop-character-preserved c =
+    let l = c.loop-character in
     let text = c.args.text.now in
-    let inside : l.i < length text = omega arith in (
-      omega arith,
-      l.invariant.1
-          ∙ ap (λ (rest : List ℕ). eqb l.strangest 0 && all_digits rest) (drop-cons text l.i 0 inside)
-          ∙ looked l.strangest (get_or text l.i 0) _
-          ∙ rw (c.larger-strangest.ensures, c.strange.ensures, add-one),
-    )
+    let i = l.character-index in
+    let inside : i < length text = omega arith in
+    l.invariant
+    ∙ ap (λ (rest : List ℕ). eqb l.strangest 0 && all_digits rest) (drop-cons text i 0 inside)
+    ∙ looked l.strangest (get_or text i 0) _
+    ∙ rw (c.max-strangest.ensures, c.strange.ensures, add-one)
 
 pub returns : goal.returns
 unfolding are_digits
 returns c =
-    let l = c.loop-i in
+    let l = c.loop-character in
     let text = c.args.text.now in
-    let past : length text ≤ l.i = omega arith in
-    sym (l.invariant.1 ∙ ap (λ (rest : List ℕ). eqb l.strangest 0 && all_digits rest) (drop_of_length-le text past) ∙ and-true _)
+    let past : length text ≤ l.character-index = omega arith in
+    sym (l.invariant ∙ ap (λ (rest : List ℕ). eqb l.strangest 0 && all_digits rest) (drop_of_length-le text past) ∙ and-true _)

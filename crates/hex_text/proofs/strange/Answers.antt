@@ -5,9 +5,9 @@ use Rattle.hex_text.proofs.strange.Goals as goal
 pub returns : goal.returns
 returns c =
     rw (
-      c.smaller.ensures,
+      c.min.ensures,
       c.outside-3.ensures,
-      c.smaller-letter.ensures,
+      c.min-letter.ensures,
       c.outside-2.ensures,
       c.outside.ensures,
     )

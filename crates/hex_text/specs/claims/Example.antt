@@ -1,6 +1,6 @@
 -- Words that go both ways, so that the premises of the round trip can be met; and numbers that are no bytes, which are not had back.
 use Rattle.std.specs.Prelude.{◌≡◌, ℕ, List, [], ◌∷◌, replicate}
-use Rattle.opcodes.specs.declared.Refusal.TheVariants.{None}
+use Rattle.opcodes.specs.rules.Refusals.{None}
 use Rattle.hex_text.specs.rules.Text.{read_answer, read_room, write_answer, write_room}
 
 -- the word 0xEFC08000 in an image, as text, and as text in small letters: EFC08000, efc08000

@@ -2,7 +2,7 @@
 use Rattle.std.specs.Prelude.{◌≡◌, ℕ, ◌-◌, ◌*◌, ◌/◌, ◌<◌, ◌≤◌, List, ◌++◌, map, length, take, drop, slice_index}
 use Rattle.words.specs.rules.Bits.{within}
 use Rattle.words.specs.rules.Choice.{pick}
-use Rattle.opcodes.specs.declared.Refusal.TheVariants.{None}
+use Rattle.opcodes.specs.rules.Refusals.{None}
 use Rattle.hex_text.specs.rules.Text.{read_answer, read_room, write_answer, write_room}
 
 -- a character in capitals: A to Z for a to z, any other as it is

@@ -1,10 +1,9 @@
 -- What the two programs make of a file: an image's text, and a text's image.
-use Rattle.std.specs.Prelude.{◌≡◌, ℕ, ◌-◌, ◌≤◌, List, length, take, ◌==◌, slice_index}
+use Rattle.std.specs.Prelude.{◌≡◌, ℕ, ◌-◌, ◌≤◌, List, length, take, ◌==◌, slice_index, Some, None, Result, Ok, Err}
 use Rattle.words.specs.rules.Choice.{pick}
-use Rattle.opcodes.specs.rules.Answers.{accepted}
-use Rattle.opcodes.specs.declared.Refusal.{Refusal}
+use Rattle.opcodes.specs.rules.Refusals.{Verdict}
 use Rattle.hex_text.specs.rules.Text.{image_of, text_of, read_answer, write_answer}
-use Rattle.hex_text.specs.declared.conversions.Converted.{Converted}
+use Rattle.opcodes.specs.declared.Refusal.{Refusal}
 
 -- where a file's text ends: before a line feed that is its last character
 unfoldable pub text_end : List ℕ → ℕ
@@ -13,14 +12,15 @@ text_end file = pick (slice_index file (length file - 1) == 0x0A) (length file -
 abbrev pub text_of_file : List ℕ → List ℕ
 text_of_file file = take (text_end file) file
 
--- an answer, and the length of the result; 0 where it is refused
-unfoldable pub concluded : Refusal → List ℕ → Converted
-concluded answer result = record { refusal = answer; length = pick (accepted answer) (length result) 0 }
+-- the length of the result, unless it is refused
+abbrev pub concluded : Verdict → List ℕ → Result ℕ Refusal
+concluded None result = Ok (length result)
+concluded (Some q) result = Err q
 
-abbrev pub to_text : List ℕ → List ℕ → Converted
+abbrev pub to_text : List ℕ → List ℕ → Result ℕ Refusal
 to_text image room = concluded (write_answer image room) (text_of image)
 
-abbrev pub to_image : List ℕ → List ℕ → Converted
+abbrev pub to_image : List ℕ → List ℕ → Result ℕ Refusal
 to_image file room = concluded (read_answer (text_of_file file) room) (image_of (text_of_file file))
 
 -- so many bytes are there at the beginning of a room

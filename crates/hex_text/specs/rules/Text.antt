@@ -3,8 +3,8 @@ use Rattle.std.specs.Prelude.{ℕ, zero, suc, ◌/◌, ◌%◌, Bool, not, List,
 use Rattle.words.specs.rules.Bytes.{number}
 use Rattle.words.specs.rules.Choice.{pick}
 use Rattle.opcodes.specs.rules.Answers.{accepted}
-use Rattle.opcodes.specs.declared.Refusal.{Refusal}
-use Rattle.opcodes.specs.declared.Refusal.TheVariants as refusal
+use Rattle.opcodes.specs.rules.Refusals.{Verdict}
+use Rattle.opcodes.specs.rules.Refusals as refusal
 use Rattle.digits.specs.rules.Numbers.{are_digits}
 use Rattle.hex_text.specs.rules.Digits.{digits_of, word_of, bytes_of}
 
@@ -34,14 +34,14 @@ abbrev pub all_digits : List ℕ → Bool
 all_digits = are_digits 16
 
 -- reading a text into a room: 21, 22, 23, in this order
-unfoldable pub read_answer : List ℕ → List ℕ → Refusal
+unfoldable pub read_answer : List ℕ → List ℕ → Verdict
 read_answer text room =
     pick (not (length text % 8 == 0)) refusal.Length
     (pick (not (all_digits text)) refusal.Digit
     (pick (nat_lt (length room) (length (image_of text))) refusal.Room refusal.None))
 
 -- writing an image into a room: 21, 23, in this order
-unfoldable pub write_answer : List ℕ → List ℕ → Refusal
+unfoldable pub write_answer : List ℕ → List ℕ → Verdict
 write_answer image room =
     pick (not (length image % 4 == 0)) refusal.Length
     (pick (nat_lt (length room) (length (text_of image))) refusal.Room refusal.None)
@@ -51,7 +51,7 @@ unfoldable pub laid : List ℕ → List ℕ → List ℕ
 laid result room = result ++ drop (length result) room
 
 -- what an answer leaves in the room: the result, or the room as it was where it is a refusal
-unfoldable pub left_by : Refusal → List ℕ → List ℕ → List ℕ
+unfoldable pub left_by : Verdict → List ℕ → List ℕ → List ℕ
 left_by answer result room = pick (accepted answer) (laid result room) room
 
 -- the room after a text was read into it, and after an image was written into it

@@ -1,12 +1,12 @@
 -- A turn of the host: one look at what was heard, and at most one sending. 14, 3, then by what it waits for.
-use Rattle.std.specs.Prelude.{ℕ, ◌+◌, not, ◌&&◌, List, ltb, eqb, length}
+use Rattle.std.specs.Prelude.{ℕ, ◌+◌, not, ◌&&◌, List, ltb, eqb, length, Some, Result, Ok, Err}
 use Rattle.words.specs.rules.Choice.{pick}
 use Rattle.opcodes.specs.declared.Command.{Command}
 use Rattle.opcodes.specs.declared.Dialect.TheVariants.{Dm648}
-use Rattle.opcodes.specs.declared.Refusal.TheVariants as refusal
+use Rattle.opcodes.specs.rules.Refusals as refusal
+use Rattle.opcodes.specs.declared.Known.{Known}
 use Rattle.reading.specs.rules.Reading.{past_data, read_at}
-use Rattle.reading.specs.declared.Read.{Read}
-use Rattle.reading.specs.declared.Read.TheVariants as read
+use Rattle.reading.specs.declared.Unread.{Unread}
 use Rattle.flash_session.specs.rules.Opening.{good_length}
 use Rattle.machine_answers.specs.rules.Replies.{farewell}
 use Rattle.sent.specs.rules.Line.{start_answer}
@@ -36,11 +36,11 @@ met_to h image command end =
     by_role command (sending Nothing (on_to h end)) opcode opcode opcode
 
 -- the command at the host's offset: 5, 6 or 15, 5 for its arguments, 5 for the data of a load
-abbrev pub met : Host → List ℕ → Read → Turned
-met h image (read.Refused q fetched) = refused q h
-met h image (read.Whole command words) =
-    pick (ltb (length image) (past_data command words image h.offset)) (refused refusal.Missing h)
-    (met_to h image command (past_data command words image h.offset))
+abbrev pub met : Host → List ℕ → Result Known Unread → Turned
+met h image (Err said) = refused (Some said.refusal) h
+met h image (Ok known) =
+    pick (ltb (length image) (past_data known.command known.words image h.offset)) (refused refusal.Missing h)
+    (met_to h image known.command (past_data known.command known.words image h.offset))
 
 -- by what the host waits for
 abbrev pub in_wait : Wait → Host → List ℕ → Turned

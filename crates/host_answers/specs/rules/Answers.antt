@@ -1,8 +1,8 @@
 -- The answers to a turn, and what is done where the right answer was heard and where it was not.
 use Rattle.std.specs.Prelude.{ℕ, ◌+◌, Bool, List, leb}
 use Rattle.words.specs.rules.Choice.{pick}
-use Rattle.opcodes.specs.declared.Refusal.{Refusal}
-use Rattle.opcodes.specs.declared.Refusal.TheVariants as refusal
+use Rattle.opcodes.specs.rules.Refusals.{Verdict}
+use Rattle.opcodes.specs.rules.Refusals as refusal
 use Rattle.machine_answers.specs.rules.Replies.{one_word, acknowledged}
 use Rattle.host_ear.specs.rules.Ear.{ends_with}
 use Rattle.host_answers.specs.rules.Hosts.{stop, waiting, at, trying}
@@ -15,11 +15,11 @@ use Rattle.host_answers.specs.declared.Wait.{Wait}
 use Rattle.host_answers.specs.declared.Wait.TheVariants as wait
 
 -- refused, the host as it was
-abbrev pub unchanged : Refusal → Host → Turned
+abbrev pub unchanged : Verdict → Host → Turned
 unchanged q h = record { refusal = q; sending = Nothing; host = h }
 
 -- refused: nothing goes out, and the host has ended
-abbrev pub refused : Refusal → Host → Turned
+abbrev pub refused : Verdict → Host → Turned
 refused q h = unchanged q (stop h)
 
 -- the host goes on, and this goes out

@@ -4,8 +4,8 @@ use Rattle.words.specs.rules.Bytes.{word_at}
 use Rattle.words.specs.rules.Choice.{pick}
 use Rattle.opcodes.specs.declared.Dialect.{Dialect}
 use Rattle.opcodes.specs.declared.Dialect.TheVariants.{Am17xx}
-use Rattle.opcodes.specs.declared.Refusal.{Refusal}
-use Rattle.opcodes.specs.declared.Refusal.TheVariants.{None, Image, Magic, Tries}
+use Rattle.opcodes.specs.rules.Refusals.{Verdict}
+use Rattle.opcodes.specs.rules.Refusals.{None, Image, Magic, Tries}
 use Rattle.flash_session.specs.rules.Opening.{good_length, magic}
 use Rattle.sent.specs.declared.Bus.{Bus}
 use Rattle.sent.specs.declared.Bus.TheVariants.{Bytes}
@@ -82,7 +82,7 @@ at_start bus dialect length tries limit pings ended =
     }
 
 -- a refused opening gives a host that has ended, of the line of bytes and an AM17xx, with no image, tries, pings or retries
-abbrev pub refused_by : Refusal → Opened
+abbrev pub refused_by : Verdict → Opened
 refused_by q = record { refusal = q; host = at_start Bytes Am17xx 0 0 0 0 true }
 
 -- the most tries that a wait allows

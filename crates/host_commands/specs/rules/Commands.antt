@@ -1,16 +1,14 @@
 -- A command of the image by its role, and what its acknowledged opcode leads to: its words, the checksum and the seek (11, 12), the close.
-use Rattle.std.specs.Prelude.{ℕ, ◌+◌, List, leb, eqb}
+use Rattle.std.specs.Prelude.{ℕ, ◌+◌, List, leb, eqb, Some, Ok, Err}
 use Rattle.words.specs.rules.Bytes.{word_at}
 use Rattle.words.specs.rules.Choice.{pick}
 use Rattle.opcodes.specs.declared.Command.{Command}
 use Rattle.opcodes.specs.declared.Command.TheVariants.{Load, Fill, BootTable, Enable, Disable, Request, StartOver, JumpAndClose, Ping, SequentialRead}
 use Rattle.opcodes.specs.declared.Dialect.{Dialect}
 use Rattle.opcodes.specs.declared.Dialect.TheVariants.{Am17xx, Dm648}
-use Rattle.opcodes.specs.declared.Refusal.TheVariants as refusal
+use Rattle.opcodes.specs.rules.Refusals as refusal
 use Rattle.reading.specs.rules.Reading.{argument}
-use Rattle.commands.specs.rules.Commands.{sought_from}
-use Rattle.commands.specs.declared.Sought.{Sought}
-use Rattle.commands.specs.declared.Sought.TheVariants as sought
+use Rattle.commands.specs.rules.Commands.{sought_from, Sought}
 use Rattle.host_ear.specs.rules.Ear.{newest, ends_with_checksum}
 use Rattle.host_answers.specs.rules.Answers.{refused, sending, enters, answered_by, acknowledges, on_to}
 use Rattle.host_answers.specs.rules.Hosts.{stop, waiting, at, retrying}
@@ -45,8 +43,8 @@ closing Dm648 h = waiting h wait.Closing
 
 -- a mismatch, by where its seek leads: one retry, and Start-Over before it; or 12
 abbrev pub sought_as : Host → List ℕ → Sought → Turned
-sought_as h image (sought.To offset) = enters (wait.Over offset) (retrying h) image
-sought_as h image (sought.Refused q) = refused q h
+sought_as h image (Ok offset) = enters (wait.Over offset) (retrying h) image
+sought_as h image (Err q) = refused (Some q) h
 
 -- the checksum that a Request was answered with: a match goes on past its words; 11 where the retries are spent; else the seek
 unfoldable pub compared : Host → List ℕ → ℕ → ℕ → Turned

@@ -8,13 +8,13 @@ use Rattle.machine_answers.specs.rules.Replies.{acknowledged}
 use Rattle.host_ear.specs.rules.Ear.{ends_with_checksum}
 use Rattle.host_ear.proofs.ends_with_checksum.Goals as goal
 
-pub returns-then-ear-lt8 : goal.returns-then-ear-lt8
+pub returns-then-ear-ge8 : goal.returns-then-ear-ge8
 unfolding ends_with_checksum
-returns-then-ear-lt8 c = simp (lt-leb _ _ c.if-ear-lt8.true)
-
-pub returns : goal.returns
-unfolding ends_with_checksum
-returns c =
+returns-then-ear-ge8 c =
     let a = c.args in
     rw c.acknowledgement.ensures
-    (sym (ap (λ (t : Bool). t && eqb (a.ear.last % 2 ^ 32) (acknowledged a.opcode)) (le-leb _ _ c.if-ear-lt8.false)))
+    (sym (ap (λ (t : Bool). t && eqb (a.ear.last % 2 ^ 32) (acknowledged a.opcode)) (le-leb _ _ c.if-ear-ge8.true)))
+
+pub returns-else-ear-ge8 : goal.returns-else-ear-ge8
+unfolding ends_with_checksum
+returns-else-ear-ge8 c = simp (lt-leb _ _ c.if-ear-ge8.false)

@@ -3,7 +3,7 @@ use Rattle.std.specs.Prelude.{ℕ, Bool, true, false, not, ◌&&◌, List, ◌�
 use Rattle.words.specs.rules.Bytes.{word_at}
 use Rattle.opcodes.specs.rules.Answers.{code_of, accepted}
 use Rattle.opcodes.specs.declared.Dialect.{Dialect}
-use Rattle.opcodes.specs.declared.Refusal.TheVariants as refusal
+use Rattle.opcodes.specs.rules.Refusals as refusal
 use Rattle.flash_session.specs.rules.Opening.{good_length, magic}
 use Rattle.sent.specs.declared.Bus.{Bus}
 use Rattle.host_answers.specs.rules.Hosts.{heard_all, opened_by}

@@ -1,15 +1,13 @@
 -- What follows the right answer, and what goes out, of every host value and image: the tables of request 1.
-use Rattle.std.specs.Prelude.{ℕ, ◌+◌, ◌-◌, ◌≤◌, ◌<◌, true, false, List, ◌⊎◌, ◌≡◌, length}
+use Rattle.std.specs.Prelude.{ℕ, ◌+◌, ◌-◌, ◌≤◌, ◌<◌, true, false, List, ◌⊎◌, ◌≡◌, length, Ok}
 use Rattle.words.specs.rules.Bytes.{bytes_at, word_at}
 use Rattle.opcodes.specs.rules.Answers.{accepted}
-use Rattle.opcodes.specs.rules.Opcodes.{looked_up}
+use Rattle.opcodes.specs.rules.Opcodes.{looked_up, with_words}
 use Rattle.opcodes.specs.declared.Command.{Command}
 use Rattle.opcodes.specs.declared.Dialect.{Dialect}
 use Rattle.opcodes.specs.declared.Dialect.TheVariants.{Am17xx, Dm648}
-use Rattle.opcodes.specs.declared.Found.TheVariants.{Known}
 use Rattle.opcodes.specs.declared.Mode.TheVariants.{Flash}
 use Rattle.reading.specs.rules.Reading.{argument, past_data}
-use Rattle.commands.specs.declared.Sought.TheVariants.{To}
 use Rattle.host_ear.specs.rules.Ear.{newest}
 use Rattle.host_answers.specs.rules.Hosts.{changed}
 use Rattle.host_answers.specs.rules.Sendings.{stretch_of}
@@ -25,7 +23,7 @@ use Rattle.host_answers.specs.declared.Wait.TheVariants as wait
 -- a command stands at an offset by the flash rows of a dialect, its arguments and data all in the image, up to an end
 pub record Stands (dialect : Dialect) (offset : ℕ) (image : List ℕ) (command : Command) (end : ℕ) : Type 0 where
   pub words : ℕ
-  pub row : looked_up (word_at image offset) Flash dialect ≡ Known command words
+  pub row : looked_up (word_at image offset) Flash dialect ≡ Ok (with_words command words)
   pub upto : end ≡ past_data command words image offset
   pub inside : end ≤ length image
 
@@ -77,7 +75,7 @@ module _ (h : Host) (image : List ℕ) where
     begins : {before next : Wait} {out : Sending} → Begins before next out → Next before (into h next) out
     moves : {before : Wait} {offset : ℕ} {out : Sending} → Moves before offset out → Next before (on_from h offset) out
     starts_over : {command : Command} {end offset : ℕ} → mismatches (wait.Opcode command end) h image ≡ true → h.retries < h.limit
-        → sought_by h image ≡ To offset
+        → sought_by h image ≡ Ok offset
         → Next (wait.Opcode command end) (anew h (h.retries + 1) h.offset (wait.Over offset)) (Word 0x58535908)
     closed : {command : Command} {end : ℕ} → Words command end → is_close command ≡ true → h.dialect ≡ Am17xx
         → Next (wait.Opcode command end) (over (on_from h end)) (Stretch (h.offset + 4) end)

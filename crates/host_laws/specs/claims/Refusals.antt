@@ -1,12 +1,12 @@
 -- Refused turns, of every host value: what they leave, and which of them comes first.
-use Rattle.std.specs.Prelude.{ℕ, Bool, true, false, not, ◌&&◌, ◌||◌, List, ◌≡◌, ltb, eqb, length}
+use Rattle.std.specs.Prelude.{ℕ, Bool, true, false, not, ◌&&◌, ◌||◌, List, ◌≡◌, ltb, eqb, length, Some, Result, Ok, Err}
 use Rattle.words.specs.rules.Choice.{pick}
 use Rattle.opcodes.specs.rules.Answers.{code_of, accepted}
-use Rattle.opcodes.specs.declared.Refusal.{Refusal}
-use Rattle.opcodes.specs.declared.Refusal.TheVariants as refusal
+use Rattle.opcodes.specs.rules.Refusals.{Verdict}
+use Rattle.opcodes.specs.rules.Refusals as refusal
+use Rattle.opcodes.specs.declared.Known.{Known}
 use Rattle.reading.specs.rules.Reading.{past_data, read_at}
-use Rattle.reading.specs.declared.Read.{Read}
-use Rattle.reading.specs.declared.Read.TheVariants.{Whole, Refused}
+use Rattle.reading.specs.declared.Unread.{Unread}
 use Rattle.host.specs.rules.Turn.{turned}
 use Rattle.host_laws.specs.claims.Looks.{is_turn, is_lent}
 use Rattle.host_answers.specs.declared.Host.{Host}
@@ -36,7 +36,7 @@ pub record Stopped (h g : Host) : Type 0 where
   pub ear : g.ear ≡ h.ear
 
 -- 14 and 3 spare the host
-abbrev pub spares : Refusal → Bool
+abbrev pub spares : Verdict → Bool
 spares q = eqb (code_of q) 14 || eqb (code_of q) 3
 
 -- nothing goes out; a host that is spared is as it was, any other has ended
@@ -49,7 +49,7 @@ abbrev pub RefusedSendsNothing : Type 0
 RefusedSendsNothing = (h : Host) (image : List ℕ) → accepted (turned h image).refusal ≡ false → Refuses h (turned h image)
 
 -- 14 exactly for a host that has ended, and then 3 exactly for an image of another length
-pub record FirstOfAll (h : Host) (image : List ℕ) (q : Refusal) : Type 0 where
+pub record FirstOfAll (h : Host) (image : List ℕ) (q : Verdict) : Type 0 where
   pub fourteen : eqb (code_of q) 14 ≡ h.ended
   pub three : eqb (code_of q) 3 ≡ (not h.ended && not (is_lent h image))
 
@@ -57,9 +57,9 @@ abbrev pub JudgedFirst : Type 0
 JudgedFirst = (h : Host) (image : List ℕ) → FirstOfAll h image (turned h image).refusal
 
 -- what is read where a command is met: 5, 6 or 15, 5 for its arguments, then 5 for the data of a load
-abbrev pub met_with : Host → List ℕ → Read → Refusal
-met_with h image (Refused q fetched) = q
-met_with h image (Whole command words) = pick (ltb (length image) (past_data command words image h.offset)) refusal.Missing refusal.None
+abbrev pub met_with : Host → List ℕ → Result Known Unread → Verdict
+met_with h image (Err said) = Some said.refusal
+met_with h image (Ok known) = pick (ltb (length image) (past_data known.command known.words image h.offset)) refusal.Missing refusal.None
 
 -- so is a turn that waits for nothing, as flash reads it; what goes out then, its opcode or nothing, goes out where none of these is
 abbrev pub JudgedBeforeTheOpcode : Type 0

@@ -1,11 +1,9 @@
 -- Retries, of every host value: 11, then 12, else one retry, with Start-Over before the seek.
-use Rattle.std.specs.Prelude.{ℕ, ◌+◌, Bool, true, false, not, ◌&&◌, List, ◌≡◌, leb, ltb, eqb}
+use Rattle.std.specs.Prelude.{ℕ, ◌+◌, Bool, true, false, not, ◌&&◌, List, ◌≡◌, leb, ltb, eqb, Ok, Err}
 use Rattle.words.specs.rules.Choice.{pick}
 use Rattle.opcodes.specs.rules.Answers.{code_of}
 use Rattle.reading.specs.rules.Reading.{argument}
-use Rattle.commands.specs.rules.Commands.{sought_from}
-use Rattle.commands.specs.declared.Sought.{Sought}
-use Rattle.commands.specs.declared.Sought.TheVariants.{To, Refused}
+use Rattle.commands.specs.rules.Commands.{sought_from, Sought}
 use Rattle.host_ear.specs.rules.Ear.{newest}
 use Rattle.host.specs.rules.Turn.{turned}
 use Rattle.host_laws.specs.claims.Looks.{is_request, is_turn, right_answer}
@@ -29,8 +27,8 @@ mismatches wait.Closing h image = false
 
 -- does a seek lead to an offset?
 abbrev pub leads : Sought → Bool
-leads (To offset) = true
-leads (Refused q) = false
+leads (Ok offset) = true
+leads (Err q) = false
 
 -- where the host seeks: from the Request at its offset, by its second argument
 abbrev pub sought_by : Host → List ℕ → Sought
@@ -49,7 +47,7 @@ retried h image = is_turn h image && mismatches h.stage.wait h image && ltb h.re
 -- a retry: Start-Over goes out, and the host waits for its acknowledgement before it goes to the offset sought
 pub record StartsOver (h : Host) (image : List ℕ) (t : Turned) : Type 0 where
   pub offset : ℕ
-  pub led : sought_by h image ≡ To offset
+  pub led : sought_by h image ≡ Ok offset
   pub sent : t.sending ≡ Word 0x58535908
   pub waits : t.host.stage.wait ≡ wait.Over offset
   pub same_offset : t.host.offset ≡ h.offset

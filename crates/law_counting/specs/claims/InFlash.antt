@@ -1,13 +1,13 @@
 -- A flash session goes by the account of what its calls take (02, requests 5 and 6): its totals, its next number, and the numbers of its history.
-use Rattle.std.specs.Prelude.{ℕ, Bool, true, ◌&&◌, List, [], ◌∷◌, ◌++◌, ◌≡◌, ltb}
+use Rattle.std.specs.Prelude.{ℕ, Bool, true, ◌&&◌, List, [], ◌∷◌, ◌++◌, ◌≡◌, ltb, Result, Ok, Err}
 use Rattle.words.specs.rules.Bytes.{word_at}
 use Rattle.words.specs.rules.Choice.{pick}
 use Rattle.opcodes.specs.rules.Answers.{accepted}
 use Rattle.opcodes.specs.rules.Opcodes.{by_writing, looked_up}
 use Rattle.opcodes.specs.declared.Command.{Command}
-use Rattle.opcodes.specs.declared.Found.{Found}
-use Rattle.opcodes.specs.declared.Found.TheVariants.{Known, Retired, Unknown}
 use Rattle.opcodes.specs.declared.Mode.TheVariants.{Flash}
+use Rattle.opcodes.specs.declared.Known.{Known}
+use Rattle.opcodes.specs.declared.Refusal.{Refusal}
 use Rattle.ledger.specs.claims.Account.{Act, section, setting, enable, matched, retry, other, opened as empty, account, numbers_told}
 use Rattle.ledger.specs.claims.Booked.{standing_of, next_of, by_mark}
 use Rattle.reading.specs.rules.Reading.{argument}
@@ -23,10 +23,9 @@ abbrev pub command_act : Command → ℕ → Bool → Act
 command_act command size back = by_writing command (section size) (section size) setting (by_mark command enable (pick back retry matched) retry other)
 
 -- so of what the table finds
-abbrev pub found_acts : Found → ℕ → Bool → List Act
-found_acts Unknown size back = []
-found_acts Retired size back = []
-found_acts (Known command words) size back = command_act command size back ∷ []
+abbrev pub found_acts : Result Known Refusal → ℕ → Bool → List Act
+found_acts (Err q) size back = []
+found_acts (Ok known) size back = command_act known.command size back ∷ []
 
 -- what a call takes: the command at the session's offset, where it is not refused; it goes back where the session goes on at a lower offset
 unfoldable pub call_acts : Session → Lent → List Act

@@ -1,12 +1,12 @@
 -- A sent session goes by the account of what its units take (02, requests 5 and 6): its totals, its next number, and the numbers of its history.
-use Rattle.std.specs.Prelude.{ℕ, ◌-◌, Bool, true, ◌&&◌, List, [], ◌∷◌, ◌++◌, ◌≡◌, eqb}
+use Rattle.std.specs.Prelude.{ℕ, ◌-◌, Bool, true, ◌&&◌, List, [], ◌∷◌, ◌++◌, ◌≡◌, eqb, Result, Ok, Err}
 use Rattle.words.specs.rules.Choice.{pick}
 use Rattle.opcodes.specs.rules.Answers.{accepted}
 use Rattle.opcodes.specs.rules.Opcodes.{looked_up}
 use Rattle.opcodes.specs.declared.Dialect.{Dialect}
-use Rattle.opcodes.specs.declared.Found.{Found}
-use Rattle.opcodes.specs.declared.Found.TheVariants.{Known, Retired, Unknown}
 use Rattle.opcodes.specs.declared.Mode.TheVariants.{Sent}
+use Rattle.opcodes.specs.declared.Known.{Known}
+use Rattle.opcodes.specs.declared.Refusal.{Refusal}
 use Rattle.ledger.specs.claims.Account.{Act, piece, opened as empty, account, numbers_told}
 use Rattle.ledger.specs.claims.Booked.{standing_of, next_of, opcode_act}
 use Rattle.machine_answers.specs.declared.Core.{Core}
@@ -22,10 +22,9 @@ use Rattle.bit_history.specs.claims.UnitHistory.{ends_word, history_of}
 use Rattle.law_counting.specs.claims.Numbers.{numbers_in}
 
 -- an opcode, by what the table finds
-abbrev pub opcode_acts : Found → List Act
-opcode_acts Unknown = []
-opcode_acts Retired = []
-opcode_acts (Known command words) = opcode_act command ∷ []
+abbrev pub opcode_acts : Result Known Refusal → List Act
+opcode_acts (Err q) = []
+opcode_acts (Ok known) = opcode_act known.command ∷ []
 
 -- a word, by the phase that awaits it: an opcode, the last argument word of a command, a word of a load's data; what a Ping echoes is nothing
 abbrev pub phase_acts : Phase → Dialect → ℕ → List Act

@@ -1,13 +1,11 @@
 -- What Load, Fill and Boot Table do to memory, bit by bit: which bits a command writes and what they become, whatever memory
 -- held before.
-use Rattle.std.specs.Prelude.{ℕ, ◌+◌, ◌-◌, ◌*◌, ◌/◌, ◌%◌, ◌≤◌, ◌<◌, Bool, false, ◌||◌, List, [], ◌∷◌, ◌≡◌, length, get_or}
+use Rattle.std.specs.Prelude.{ℕ, ◌+◌, ◌-◌, ◌*◌, ◌/◌, ◌%◌, ◌≤◌, ◌<◌, Bool, false, ◌||◌, List, [], ◌∷◌, ◌≡◌, length, get_or, Option, Some, None}
 use Rattle.words.specs.rules.Bits.{bit, within}
 use Rattle.words.specs.rules.Bytes.{byte, bit_at, size_of}
 use Rattle.words.specs.rules.Choice.{pick}
-use Rattle.commands.specs.declared.Shape.{Shape}
-use Rattle.commands.specs.declared.Shape.TheVariants.{Bits, Wrong}
-use Rattle.commands.specs.declared.UnitType.{UnitType}
-use Rattle.commands.specs.declared.UnitType.TheVariants.{Of, Other}
+use Rattle.words.specs.declared.Unit.{Unit as UnitOf}
+use Rattle.commands.specs.rules.Commands.{Shape}
 
 -- a run of bits of memory: its first bit, how many they are, and what the i-th of them becomes
 pub record Effect : Type 0 where
@@ -41,14 +39,14 @@ abbrev pub load_effect : ℕ → List ℕ → Effect
 load_effect place bytes = bytes_effect place (length bytes) (λ i. get_or bytes i 0)
 
 -- Fill writes the low bytes of the pattern, again and again
-abbrev pub fill_effect : ℕ → ℕ → UnitType → ℕ → Effect
-fill_effect place size Other pattern = no_effect
-fill_effect place size (Of unit) pattern = bytes_effect place size (λ i. byte pattern (i % size_of unit))
+abbrev pub fill_effect : ℕ → ℕ → Option UnitOf → ℕ → Effect
+fill_effect place size None pattern = no_effect
+fill_effect place size (Some unit) pattern = bytes_effect place size (λ i. byte pattern (i % size_of unit))
 
 -- Boot Table writes the bits of its shape, and no other bit of the unit
 abbrev pub setting_effect : ℕ → Shape → ℕ → Effect
-setting_effect place Wrong value = no_effect
-setting_effect place (Bits unit start width field) value = record { first = 8 * place + start; count = width; gives = bit value }
+setting_effect place None value = no_effect
+setting_effect place (Some bits) value = record { first = 8 * place + bits.start; count = bits.width; gives = bit value }
 
 -- memory before and after an effect: the bits written are those given, all other bits are kept
 pub record Does (e : Effect) (before after : List ℕ) : Type 0 where

@@ -1,6 +1,6 @@
 -- What a ward may be told of a field that a Boot Table command sets: the field holds the data, all of
 -- them, or the command is refused.
-use Rattle.std.specs.Prelude.{ℕ, ◌+◌, ◌*◌, ◌/◌, ◌%◌, ◌^◌, ◌≤◌, ◌<◌, false, List, [], ◌∷◌, ◌≡◌, length, replicate}
+use Rattle.std.specs.Prelude.{ℕ, ◌+◌, ◌*◌, ◌/◌, ◌%◌, ◌^◌, ◌≤◌, ◌<◌, false, List, [], ◌∷◌, ◌≡◌, length, replicate, Ok, Err}
 use Rattle.words.specs.rules.Bits.{within}
 use Rattle.words.specs.rules.Bytes.{byte, word_at, bit_at}
 use Rattle.windows.specs.rules.Map.{zero_window}
@@ -9,7 +9,6 @@ use Rattle.windows.specs.declared.Window.{Window}
 use Rattle.opcodes.specs.declared.Event.TheVariants.{Nothing}
 use Rattle.opcodes.specs.declared.Refusal.TheVariants.{TooWide}
 use Rattle.commands.specs.rules.Commands.{judged_code, start_of, stop_of, width_of, setting_judged, setting_done, setting_memory}
-use Rattle.commands.specs.declared.Judged.TheVariants.{Granted, Refused}
 
 -- a type word that names a field: kind 3 or 4, START ≤ STOP ≤ 31, bits 24-31 zero
 pub record NamesField (word : ℕ) : Type 0 where
@@ -38,18 +37,18 @@ option_word = record { first = 0x80000000; length = 4; rights = 2 } ∷ replicat
 pub record FieldLaws : Type 0 where
   -- after an accepted setting of a field
   pub accepted : (windows : List Window) (memory : List ℕ) → length memory ≡ sum_of windows
-      → (word address value place : ℕ) → NamesField word → setting_judged windows word address value ≡ Granted place
-      → Holds word place value memory (setting_memory (Granted place) memory word value)
+      → (word address value place : ℕ) → NamesField word → setting_judged windows word address value ≡ Ok place
+      → Holds word place value memory (setting_memory (Ok place) memory word value)
   -- 16 where the data have a bit at or above the field's width, and only there
   pub too_wide : (windows : List Window) (word address value : ℕ) → NamesField word → 2 ^ field_width word ≤ value
-      → setting_judged windows word address value ≡ Refused TooWide
-  pub only_too_wide : (windows : List Window) (word address value : ℕ) → setting_judged windows word address value ≡ Refused TooWide
+      → setting_judged windows word address value ≡ Err TooWide
+  pub only_too_wide : (windows : List Window) (word address value : ℕ) → setting_judged windows word address value ≡ Err TooWide
       → NamesField word × (2 ^ field_width word ≤ value)
   -- nothing is written then, and there is no wait
   pub nothing_done : (memory : List ℕ) (checksum word value delay : ℕ)
-      → (setting_memory (Refused TooWide) memory word value ≡ memory) × ((setting_done (Refused TooWide) checksum delay).event ≡ Nothing)
+      → (setting_memory (Err TooWide) memory word value ≡ memory) × ((setting_done (Err TooWide) checksum delay).event ≡ Nothing)
   -- three bits hold 7 and not 8
-  pub seven : setting_judged option_word 0x00060403 0x80000000 7 ≡ Granted 0
+  pub seven : setting_judged option_word 0x00060403 0x80000000 7 ≡ Ok 0
   pub eight : judged_code (setting_judged option_word 0x00060403 0x80000000 8) ≡ 16
   -- a byte takes the low bits of 0x1FF
   pub byte_of_more : (a b c d : ℕ)

@@ -1,11 +1,11 @@
 -- Request 13 of 02: flash and line agree. Commissioning loads a car by line; afterwards it boots from flash.
-use Rattle.std.specs.Prelude.{ℕ, ◌*◌, ◌≤◌, List, ◌≢◌, ◌≡◌}
+use Rattle.std.specs.Prelude.{ℕ, ◌*◌, ◌≤◌, List, ◌≢◌, ◌≡◌, Ok}
 use Rattle.windows.specs.declared.Window.{Window}
 use Rattle.opcodes.specs.declared.Command.TheVariants.{SequentialRead}
 use Rattle.opcodes.specs.declared.Dialect.{Dialect}
 use Rattle.opcodes.specs.declared.Event.TheVariants.{Enter}
+use Rattle.opcodes.specs.rules.Opcodes.{with_words}
 use Rattle.reading.specs.rules.Reading.{read_at}
-use Rattle.reading.specs.declared.Read.TheVariants.{Whole}
 use Rattle.flash_runs.specs.rules.Events.{waits_of, last_of, events_from}
 use Rattle.flash_runs.specs.rules.Run.{ran_from}
 use Rattle.sent.specs.declared.Bus.{Bus}
@@ -18,7 +18,7 @@ module _ (bus : Bus) (dialect : Dialect) (count : ℕ) (windows : List Window) (
     pub premises : Premises bus dialect count windows m image tries limit pings
     pub enters : (ran_from (in_flash bus dialect count windows m image tries limit pings) m image).answer.event ≡ Enter address
     pub no_mismatch : (ran_from (in_flash bus dialect count windows m image tries limit pings) m image).answer.session.retries ≡ 0
-    pub no_sequential_read : (k words : ℕ) → read_at image (4 * k) dialect ≢ Whole SequentialRead words
+    pub no_sequential_read : (k words : ℕ) → read_at image (4 * k) dialect ≢ Ok (with_words SequentialRead words)
 
   -- by line, n turns of the group controller's half with no byte lost: the same entry address, the same memory, the same waits in the same order
   pub record Agree (address n : ℕ) : Type 0 where

@@ -1,22 +1,19 @@
 -- The units of a command of an image, sent on either line to a loader that is like a flash session, do what the flash call does: `both-modes` of law_modes,
 -- lifted from words to units.
-use Rattle.std.specs.Prelude.{ℕ, ◌+◌, ◌-◌, ◌*◌, ◌^◌, ◌≤◌, ◌<◌, true, false, ◌&&◌, List, [], ◌≢◌, ◌≡◌, eqb, length}
+use Rattle.std.specs.Prelude.{ℕ, ◌+◌, ◌-◌, ◌*◌, ◌^◌, ◌≤◌, ◌<◌, true, false, ◌&&◌, List, [], ◌≢◌, ◌≡◌, eqb, length, Ok, Err}
 use Rattle.words.specs.rules.Bytes.{bytes_at, word_at, AreBytes}
 use Rattle.windows.specs.rules.Window.{sum_of}
 use Rattle.opcodes.specs.rules.Answers.{code_of, kind_of, told}
-use Rattle.opcodes.specs.rules.Opcodes.{looked_up}
+use Rattle.opcodes.specs.rules.Opcodes.{looked_up, with_words}
 use Rattle.opcodes.specs.declared.Command.{Command}
 use Rattle.opcodes.specs.declared.Command.TheVariants.{Load, Request, SequentialRead}
 use Rattle.opcodes.specs.declared.Dialect.{Dialect}
 use Rattle.opcodes.specs.declared.Event.{Event}
 use Rattle.opcodes.specs.declared.Event.TheVariants.{Nothing}
-use Rattle.opcodes.specs.declared.Found.TheVariants.{Known}
 use Rattle.opcodes.specs.declared.Mode.TheVariants.{Flash, Sent}
 use Rattle.opcodes.specs.declared.Refusal.{Refusal}
-use Rattle.reading.specs.rules.Reading.{past_data, argument, read_at}
-use Rattle.reading.specs.declared.Read.TheVariants as read
+use Rattle.reading.specs.rules.Reading.{past_data, argument, read_at, unread}
 use Rattle.commands.specs.rules.Commands.{sought_from}
-use Rattle.commands.specs.declared.Sought.TheVariants as sought
 use Rattle.flash_session.specs.rules.Opening.{good_length}
 use Rattle.flash_session.specs.rules.Sessions as flash
 use Rattle.flash.specs.rules.Step.{step_of}
@@ -112,11 +109,11 @@ module _ (bus : Bus) (s : Session) (m image : List ℕ) (k : Core) where
     pub match : argument image s.offset 0 ≡ s.checksum → GoesOnAt m image call_here (s.offset + 12) s.retries asked
     -- a mismatch with no retry left, or one that leads nowhere: the call is refused
     pub spent : argument image s.offset 0 ≢ s.checksum → s.limit ≤ s.retries → Stopped m call_here
-    pub astray : argument image s.offset 0 ≢ s.checksum → (q : Refusal) → sought_from s.offset (argument image s.offset 1) ≡ sought.Refused q
+    pub astray : argument image s.offset 0 ≢ s.checksum → (q : Refusal) → sought_from s.offset (argument image s.offset 1) ≡ Err q
         → Stopped m call_here
     -- else the call goes back, one retry more, and Start-Over takes the loader there
     pub back : argument image s.offset 0 ≢ s.checksum → s.retries < s.limit
-        → (offset : ℕ) → sought_from s.offset (argument image s.offset 1) ≡ sought.To offset
+        → (offset : ℕ) → sought_from s.offset (argument image s.offset 1) ≡ Ok offset
         → (over : Core)
         × Carries bus (at_word asked m) (units_of bus 0x58535908) (at_word over m) (sent_bytes (one_word (acknowledged 0x58535908))) []
         × GoesOnAt m image call_here offset (s.retries + 1) over
@@ -136,17 +133,17 @@ pub record Keeps (s t : Session) : Type 0 where
 -- what stands at the session's offset decides which of these holds
 pub record OnTheLine : Type 0 where
   pub commands : (bus : Bus) (s : Session) (m image : List ℕ) (k : Core) → Standing s m image k → (command : Command) (words : ℕ)
-      → read_at image s.offset s.dialect ≡ read.Whole command words → command ≢ Request → command ≢ SequentialRead
+      → read_at image s.offset s.dialect ≡ Ok (with_words command words) → command ≢ Request → command ≢ SequentialRead
       → past_data command words image s.offset ≤ length image → CommandSent bus s m image k command words
   pub requests : (bus : Bus) (s : Session) (m image : List ℕ) (k : Core) → Standing s m image k → (words : ℕ)
-      → read_at image s.offset s.dialect ≡ read.Whole Request words → RequestSent bus s m image k
+      → read_at image s.offset s.dialect ≡ Ok (with_words Request words) → RequestSent bus s m image k
   pub passed_over : (bus : Bus) (s : Session) (m image : List ℕ) (k : Core) → Standing s m image k → (words : ℕ)
-      → read_at image s.offset s.dialect ≡ read.Whole SequentialRead words → PassedOver bus s m image k words
+      → read_at image s.offset s.dialect ≡ Ok (with_words SequentialRead words) → PassedOver bus s m image k words
   -- (4) nothing to send: the call is refused
   pub not_read : (s : Session) (m image : List ℕ) (k : Core) → Standing s m image k → (q : Refusal) (fetched : ℕ)
-      → read_at image s.offset s.dialect ≡ read.Refused q fetched → Stopped m (step_of s m image)
+      → read_at image s.offset s.dialect ≡ Err (unread q fetched) → Stopped m (step_of s m image)
   pub data_missing : (s : Session) (m image : List ℕ) (k : Core) → Standing s m image k → (words : ℕ)
-      → read_at image s.offset s.dialect ≡ read.Whole Load words → length image < past_data Load words image s.offset
+      → read_at image s.offset s.dialect ≡ Ok (with_words Load words) → length image < past_data Load words image s.offset
       → Stopped m (step_of s m image)
   -- (5) (6) whatever stands there
   pub keeps : (s : Session) (m image : List ℕ) → Keeps s (step_of s m image).answer.session
@@ -160,4 +157,4 @@ pub record Stretches : Type 0 where
   pub word : (image : List ℕ) (at : ℕ) → AreBytes image → word_at image at < 2 ^ 32
   -- a row of flash mode is one of sent mode too
   pub row : (dialect : Dialect) (opcode : ℕ) (command : Command) (words : ℕ) → command ≢ Request → command ≢ SequentialRead
-      → looked_up opcode Flash dialect ≡ Known command words → looked_up opcode Sent dialect ≡ Known command words
+      → looked_up opcode Flash dialect ≡ Ok (with_words command words) → looked_up opcode Sent dialect ≡ Ok (with_words command words)

@@ -1,20 +1,17 @@
 -- Both modes do the same with the same words: one call on a command in an image, and the words of that command sent.
-use Rattle.std.specs.Prelude.{ℕ, zero, suc, ◌+◌, ◌*◌, ◌≤◌, ◌<◌, true, false, ◌&&◌, List, [], ◌∷◌, ◌++◌, ◌≡◌, eqb, length, get_or}
+use Rattle.std.specs.Prelude.{ℕ, zero, suc, ◌+◌, ◌*◌, ◌≤◌, ◌<◌, true, false, ◌&&◌, List, [], ◌∷◌, ◌++◌, ◌≡◌, eqb, length, get_or, Ok, Err}
 use Rattle.words.specs.rules.Bytes.{word_at}
 use Rattle.windows.specs.rules.Window.{sum_of}
-use Rattle.opcodes.specs.rules.Opcodes.{looked_up}
+use Rattle.opcodes.specs.rules.Opcodes.{looked_up, with_words}
 use Rattle.opcodes.specs.declared.Command.{Command}
 use Rattle.opcodes.specs.declared.Command.TheVariants.{Load, Fill, BootTable, Enable, Disable, Request, JumpAndClose}
 use Rattle.opcodes.specs.declared.Dialect.{Dialect}
 use Rattle.opcodes.specs.declared.Dialect.TheVariants.{Am17xx, Dm648}
-use Rattle.opcodes.specs.declared.Found.TheVariants.{Known}
 use Rattle.opcodes.specs.declared.Mode.TheVariants.{Flash, Sent}
 use Rattle.opcodes.specs.declared.Refusal.{Refusal}
 use Rattle.ledger.specs.rules.Totals.{is_spent, settled}
 use Rattle.reading.specs.rules.Reading.{past_words, argument, data_words}
-use Rattle.commands.specs.rules.Commands.{load_judged}
-use Rattle.commands.specs.declared.Judged.{Judged}
-use Rattle.commands.specs.declared.Judged.TheVariants.{Granted, Refused}
+use Rattle.commands.specs.rules.Commands.{load_judged, Judged}
 use Rattle.flash_session.specs.rules.Opening.{good_length}
 use Rattle.flash_session.specs.rules.Sessions as flash
 use Rattle.flash_commands.specs.rules.Commands.{overflowing, requested}
@@ -76,11 +73,11 @@ module _ (s : Session) (m image : List ℕ) (k : Core) where
   load_is = overflowing s load_size (load_judged s.windows (argument image s.offset 0) load_size)
 
   pub record SameLoad : Type 0 where
-    pub refused : (q : Refusal) → load_is ≡ Refused q → Same (step_of s m image) (sent_with (words_at image (s.offset + 4) 2))
+    pub refused : (q : Refusal) → load_is ≡ Err q → Same (step_of s m image) (sent_with (words_at image (s.offset + 4) 2))
     -- or without a number, its data there
-    pub spent : (place : ℕ) → load_is ≡ Granted place → is_spent s.totals ≡ true → past_words s.offset 2 + 4 * data_words load_size ≤ length image
+    pub spent : (place : ℕ) → load_is ≡ Ok place → is_spent s.totals ≡ true → past_words s.offset 2 + 4 * data_words load_size ≤ length image
         → Same (step_of s m image) (sent_with (words_at image (s.offset + 4) 2))
-    pub granted : (place : ℕ) → load_is ≡ Granted place → is_spent s.totals ≡ false → past_words s.offset 2 + 4 * data_words load_size ≤ length image
+    pub granted : (place : ℕ) → load_is ≡ Ok place → is_spent s.totals ≡ false → past_words s.offset 2 + 4 * data_words load_size ≤ length image
         → Same (step_of s m image) (sent_with (words_at image (s.offset + 4) 2 ++ words_at image (past_words s.offset 2) (data_words load_size)))
 
   -- Request differs. Sent, it has no argument: the checksum is said and becomes 0, the Request stands unsettled, and the session goes on
@@ -102,8 +99,8 @@ module _ (s : Session) (m image : List ℕ) (k : Core) where
 
 -- an opcode's rows in both modes, in a dialect
 pub record RowsOf (dialect : Dialect) (opcode : ℕ) (command : Command) (flash sent : ℕ) : Type 0 where
-  pub in-flash : looked_up opcode Flash dialect ≡ Known command flash
-  pub in_sent : looked_up opcode Sent dialect ≡ Known command sent
+  pub in-flash : looked_up opcode Flash dialect ≡ Ok (with_words command flash)
+  pub in_sent : looked_up opcode Sent dialect ≡ Ok (with_words command sent)
 
 -- both modes, at any command that both have
 pub record BothModes : Type 0 where

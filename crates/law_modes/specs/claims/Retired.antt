@@ -2,7 +2,7 @@
 use Rattle.std.specs.Prelude.{ℕ, ◌+◌, ◌≤◌, true, false, ◌&&◌, List, ◌≡◌, eqb, length}
 use Rattle.words.specs.rules.Bytes.{word_at}
 use Rattle.windows.specs.rules.Window.{sum_of}
-use Rattle.opcodes.specs.declared.Refusal.TheVariants.{Retired}
+use Rattle.opcodes.specs.rules.Refusals.{Retired}
 use Rattle.flash_session.specs.rules.Opening.{good_length}
 use Rattle.flash_session.specs.rules.Sessions as flash
 use Rattle.flash.specs.rules.Step.{step_of}

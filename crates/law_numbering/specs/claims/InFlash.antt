@@ -1,13 +1,13 @@
 -- Numbers in flash mode (02, request 6): an opening without them leads to none, one with them to sessions that have them, and where they are kept they change
 -- nothing until there are no more, which is 25.
-use Rattle.std.specs.Prelude.{ℕ, Bool, true, false, List, ◌≢◌, ◌≡◌}
+use Rattle.std.specs.Prelude.{ℕ, Bool, true, false, List, ◌≢◌, ◌≡◌, Result, Ok, Err}
 use Rattle.words.specs.rules.Bytes.{word_at}
-use Rattle.opcodes.specs.rules.Answers.{code_of}
+use Rattle.opcodes.specs.rules.Answers.{code_of, accepted}
 use Rattle.opcodes.specs.rules.Opcodes.{looked_up}
-use Rattle.opcodes.specs.declared.Found.{Found}
-use Rattle.opcodes.specs.declared.Found.TheVariants.{Known, Retired, Unknown}
 use Rattle.opcodes.specs.declared.Mode.TheVariants.{Flash}
-use Rattle.opcodes.specs.declared.Refusal.TheVariants as refusal
+use Rattle.opcodes.specs.rules.Refusals as refusal
+use Rattle.opcodes.specs.declared.Known.{Known}
+use Rattle.opcodes.specs.declared.Refusal.{Refusal}
 use Rattle.ledger.specs.claims.Agreement.{KeepsNone, HasNumbers}
 use Rattle.ledger.specs.rules.Totals.{is_spent}
 use Rattle.flash_laws.specs.claims.Reached.{Reached, opening_of, numbering}
@@ -29,10 +29,9 @@ abbrev pub plain_outcome : CallOutcome → CallOutcome
 plain_outcome o = plainly o.answer leaving o.memory
 
 -- does a command that the table finds take a number?
-abbrev pub takes_found : Found → Bool
-takes_found Unknown = false
-takes_found Retired = false
-takes_found (Known command words) = takes command
+abbrev pub takes_found : Result Known Refusal → Bool
+takes_found (Err q) = false
+takes_found (Ok known) = takes known.command
 
 -- a load, a fill or a setting that would be accepted, were there a number for it
 pub record OutOfNumbers (s : Session) (m image : List ℕ) : Type 0 where

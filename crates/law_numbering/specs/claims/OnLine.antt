@@ -1,9 +1,9 @@
 -- Numbers in sent mode (02, request 6): an opening without them leads to none, and where they are kept they change nothing until there are no more, which is
 -- 25.
 use Rattle.std.specs.Prelude.{ℕ, ◌-◌, Bool, true, false, ◌&&◌, List, [], ◌∷◌, ◌≢◌, ◌≡◌, eqb}
-use Rattle.opcodes.specs.rules.Answers.{code_of}
+use Rattle.opcodes.specs.rules.Answers.{code_of, accepted}
 use Rattle.opcodes.specs.declared.Command.{Command}
-use Rattle.opcodes.specs.declared.Refusal.TheVariants as refusal
+use Rattle.opcodes.specs.rules.Refusals as refusal
 use Rattle.ledger.specs.claims.Agreement.{KeepsNone}
 use Rattle.ledger.specs.rules.Totals.{is_spent}
 use Rattle.sent.specs.rules.Feeding.{State, next, heard, fed, answers}

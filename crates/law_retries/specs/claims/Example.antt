@@ -7,7 +7,7 @@ use Rattle.windows.specs.declared.Window.{Window}
 use Rattle.opcodes.specs.declared.Dialect.{Dialect}
 use Rattle.opcodes.specs.declared.Dialect.TheVariants.{Am17xx, Dm648}
 use Rattle.opcodes.specs.declared.Event.TheVariants.{Nothing}
-use Rattle.opcodes.specs.declared.Refusal.TheVariants.{Memory}
+use Rattle.opcodes.specs.rules.Refusals.{Memory}
 use Rattle.ledger.specs.claims.Attempts.{Level}
 use Rattle.ledger.specs.rules.Totals.{standing, nothing as zero}
 use Rattle.ledger.specs.declared.Standing.{Standing}

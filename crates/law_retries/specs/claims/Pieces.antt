@@ -1,9 +1,7 @@
 -- Loads, fills and settings as they are sent, and the bits that they write.
-use Rattle.std.specs.Prelude.{ℕ, ◌+◌, ◌/◌, Bool, true, List, [], ◌∷◌, ◌++◌, ◌≡◌, length, take}
+use Rattle.std.specs.Prelude.{ℕ, ◌+◌, ◌/◌, Bool, true, List, [], ◌∷◌, ◌++◌, ◌≡◌, length, take, Ok, Err}
 use Rattle.windows.specs.declared.Window.{Window}
-use Rattle.commands.specs.rules.Commands.{load_judged, unit_of, fill_judged, shape_of, setting_judged}
-use Rattle.commands.specs.declared.Judged.{Judged}
-use Rattle.commands.specs.declared.Judged.TheVariants.{Granted, Refused}
+use Rattle.commands.specs.rules.Commands.{load_judged, unit_of, fill_judged, shape_of, setting_judged, Judged}
 use Rattle.law_effects.specs.claims.Effects.{Effect, no_effect, load_effect, fill_effect, setting_effect, some_writes}
 use Rattle.words.specs.rules.Bytes.{words_bytes}
 use Rattle.sent_laws.specs.claims.Lines.{AreWords}
@@ -76,8 +74,8 @@ effect_at (setting word address value delay) place = setting_effect place (shape
 
 -- those that it writes where it is granted; none where it is refused
 abbrev pub effect_if : Judged → Piece → Effect
-effect_if (Granted place) c = effect_at c place
-effect_if (Refused q) c = no_effect
+effect_if (Ok place) c = effect_at c place
+effect_if (Err q) c = no_effect
 
 unfoldable pub effect_of : List Window → Piece → Effect
 effect_of windows c = effect_if (judged_of windows c) c

@@ -3,10 +3,10 @@ use Rattle.std.proofs.Common.{le-ltb, lt-ltb}
 use Rattle.ledger.specs.rules.Totals.{is_past}
 use Rattle.ledger.proofs.is_past.Goals as goal
 
-pub returns-then-sections-gt-MOST : goal.returns-then-sections-gt-MOST
+pub returns-then-now-gt-MOST : goal.returns-then-now-gt-MOST
 unfolding is_past
-returns-then-sections-gt-MOST c = rw (lt-ltb _ _ c.if-sections-gt-MOST.true)
+returns-then-now-gt-MOST c = rw (lt-ltb _ _ c.if-now-gt-MOST.true)
 
-pub returns : goal.returns
+pub returns-else-now-gt-MOST : goal.returns-else-now-gt-MOST
 unfolding is_past
-returns c = rw (le-ltb _ _ c.if-sections-gt-MOST.false)
+returns-else-now-gt-MOST c = rw (le-ltb _ _ c.if-now-gt-MOST.false)

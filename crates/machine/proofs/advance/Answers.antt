@@ -5,9 +5,9 @@ use Rattle.words.proofs.Choice.{chosen, passed}
 use Rattle.machine_answers.specs.rules.Answers.{WordOutcome}
 use Rattle.machine.proofs.advance.Goals as goal
 
-pub returns-then-coming-eq0 : goal.returns-then-coming-eq0
-returns-then-coming-eq0 c =
-    let done = sym (chosen _ _ _ (eq-eqb _ _ c.if-coming-eq0.true)) in record {
+pub returns-then-step-eq0 : goal.returns-then-step-eq0
+returns-then-step-eq0 c =
+    let done = sym (chosen _ _ _ (eq-eqb _ _ c.if-step-eq0.true)) in record {
       value = c.perform.ensures.value ∙ ap (λ (o : WordOutcome). o.answer) done;
       memory_after = c.perform.ensures.memory_after
           ∙ ap (λ (o : WordOutcome). o.memory) done;
@@ -15,5 +15,8 @@ returns-then-coming-eq0 c =
 
 pub returns : goal.returns
 returns c =
-    let asked = sym (passed _ _ _ (ne_eqb _ _ c.if-coming-eq0.false)) in
-    record { value = rw c.keep.ensures at c.ask.ensures ∙ ap (λ (o : WordOutcome). o.answer) asked; memory_after = ap (λ (o : WordOutcome). o.memory) asked }
+    let asked = sym (passed _ _ _ (ne_eqb _ _ c.if-step-eq0.false)) in
+    record {
+      value = rw c.keep-kept.ensures at c.ask.ensures ∙ ap (λ (o : WordOutcome). o.answer) asked;
+      memory_after = ap (λ (o : WordOutcome). o.memory) asked;
+    }

@@ -1,15 +1,14 @@
 -- What the totals of the word machine come to (02, request 5): with no retry they count the loads and fills that were accepted; a DM648 that enters was told
 -- them, and says DONE.
-use Rattle.std.specs.Prelude.{ℕ, ◌-◌, List, [], ◌∷◌, ◌++◌, ◌≢◌, ◌≡◌, eqb}
+use Rattle.std.specs.Prelude.{ℕ, ◌-◌, List, [], ◌∷◌, ◌++◌, ◌≢◌, ◌≡◌, eqb, Ok}
 use Rattle.words.specs.rules.Choice.{pick}
-use Rattle.opcodes.specs.rules.Opcodes.{by_writing, looked_up}
+use Rattle.opcodes.specs.rules.Opcodes.{by_writing, looked_up, with_words}
 use Rattle.opcodes.specs.declared.Command.{Command}
 use Rattle.opcodes.specs.declared.Command.TheVariants as command
 use Rattle.opcodes.specs.declared.Dialect.TheVariants.{Am17xx, Dm648}
 use Rattle.opcodes.specs.declared.Event.TheVariants.{Enter}
-use Rattle.opcodes.specs.declared.Found.TheVariants.{Known}
 use Rattle.opcodes.specs.declared.Mode.TheVariants.{Sent}
-use Rattle.opcodes.specs.declared.Refusal.TheVariants.{None}
+use Rattle.opcodes.specs.rules.Refusals.{None}
 use Rattle.ledger.specs.claims.Agreement.{plus}
 use Rattle.ledger.specs.rules.Totals.{standing}
 use Rattle.machine_answers.specs.rules.Answers.{quiet, ◌leaving◌}
@@ -44,7 +43,7 @@ unfoldable pub NoRetry : Core → List ℕ → List ℕ → Type 0
 NoRetry k m [] = Unit {0}
 NoRetry k m (word ∷ words) =
     ((word_step k m word).answer.refusal ≡ None)
-    × (k.stage.phase ≡ phase.Opcode → looked_up word Sent k.dialect ≢ Known command.StartOver 0)
+    × (k.stage.phase ≡ phase.Opcode → looked_up word Sent k.dialect ≢ Ok (with_words command.StartOver 0))
     × NoRetry (word_step k m word).answer.core (word_step k m word).memory words
 
 -- the sizes of the loads and fills among some words

@@ -1,8 +1,7 @@
 -- Whole words, one after the other, and what the opcode table makes of them: the words of a command do what the command does.
-use Rattle.std.specs.Prelude.{ℕ, suc, ◌+◌, List, [], ◌∷◌, ◌≡◌, length}
-use Rattle.opcodes.specs.rules.Opcodes.{looked_up}
+use Rattle.std.specs.Prelude.{ℕ, suc, ◌+◌, List, [], ◌∷◌, ◌≡◌, length, Ok}
+use Rattle.opcodes.specs.rules.Opcodes.{looked_up, with_words}
 use Rattle.opcodes.specs.declared.Command.{Command}
-use Rattle.opcodes.specs.declared.Found.TheVariants.{Known}
 use Rattle.opcodes.specs.declared.Mode.TheVariants.{Sent}
 use Rattle.machine_answers.specs.rules.Answers.{WordOutcome, await}
 use Rattle.machine_commands.specs.rules.Performed.{none_kept, performed}
@@ -39,11 +38,11 @@ done_with opcode command k m (word ∷ rest) = done_at_last command k m none_kep
 pub record ByTheTable : Type 0 where
   -- all of them: what the command does
   pub done : (k : Core) (m : List ℕ) (opcode : ℕ) (command : Command) (words : ℕ) (arguments : List ℕ)
-      → k.stage.phase ≡ Opcode → looked_up opcode Sent k.dialect ≡ Known command words → length arguments ≡ words
+      → k.stage.phase ≡ Opcode → looked_up opcode Sent k.dialect ≡ Ok (with_words command words) → length arguments ≡ words
       → after_words (word_step k m opcode) arguments ≡ done_with opcode command (begun command k) m arguments
   -- fewer: nothing but that the others are awaited
   pub waits : (k : Core) (m : List ℕ) (opcode : ℕ) (command : Command) (words : ℕ) (arguments : List ℕ) (left : ℕ)
-      → k.stage.phase ≡ Opcode → looked_up opcode Sent k.dialect ≡ Known command words → length arguments + suc left ≡ words
+      → k.stage.phase ≡ Opcode → looked_up opcode Sent k.dialect ≡ Ok (with_words command words) → length arguments + suc left ≡ words
       → ((after_words (word_step k m opcode) arguments).answer.core ≡ asking (begun command k) command (suc left) (kept_after none_kept arguments))
       × ((after_words (word_step k m opcode) arguments).memory ≡ m)
   -- the three that came last are kept, in the order in which they came

@@ -1,13 +1,12 @@
 -- What the words of a sent session tell that they wrote (02, request 6): the data of a load the bits of the whole load, by the number that it took at its size
 -- word; and any word that writes, the bits of its command by the number that it took.
-use Rattle.std.specs.Prelude.{ℕ, ◌+◌, ◌-◌, ◌*◌, ◌/◌, ◌<◌, Bool, false, ◌||◌, List, [], ◌∷◌, ◌≢◌, ◌≡◌, length}
+use Rattle.std.specs.Prelude.{ℕ, ◌+◌, ◌-◌, ◌*◌, ◌/◌, ◌<◌, Bool, false, ◌||◌, List, [], ◌∷◌, ◌≢◌, ◌≡◌, length, Ok}
 use Rattle.words.specs.rules.Bits.{within}
 use Rattle.opcodes.specs.rules.Answers.{code_of}
 use Rattle.ledger.specs.claims.Agreement.{HasNumbers}
 use Rattle.ledger.specs.rules.Totals.{first_spent}
 use Rattle.ledger.specs.declared.Totals.{Totals}
 use Rattle.commands.specs.rules.Wrote.{none_wrote, bytes_wrote}
-use Rattle.commands.specs.declared.Judged.TheVariants.{Granted}
 use Rattle.commands.specs.declared.Wrote.{Wrote}
 use Rattle.machine_answers.specs.rules.Answers.{numbered_from_one, WordOutcome}
 use Rattle.machine_loads.specs.rules.Loads.{awaited}
@@ -37,7 +36,7 @@ told_by k m (word ∷ words) = (word_step k m word).answer.wrote ∷ told_by (wo
 -- the data of a load, word by word, from a core that awaits them
 pub record PiecesTellTheLoad : Type 0 where
   pub bits : (ws : List ℕ) (k : Core) (m : List ℕ) (place size : ℕ) → k.stage.phase ≡ awaited (place + size) size → length ws ≡ (size + 3) / 4
-      → (p : ℕ) → some_tell (told_by k m ws) p ≡ tells (bytes_wrote (Granted place) size (k.tally.totals.next - 1)) p
+      → (p : ℕ) → some_tell (told_by k m ws) p ≡ tells (bytes_wrote (Ok place) size (k.tally.totals.next - 1)) p
   pub number : (ws : List ℕ) (k : Core) (m : List ℕ) (place size : ℕ) → k.stage.phase ≡ awaited (place + size) size → length ws ≡ (size + 3) / 4
       → AllBy (k.tally.totals.next - 1) (told_by k m ws)
 

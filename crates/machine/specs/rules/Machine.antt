@@ -1,13 +1,13 @@
 -- The word machine: what a whole word does, by the phase that awaits it. It knows nothing of how the word arrived.
-use Rattle.std.specs.Prelude.{ℕ, ◌-◌, true, List, eqb}
+use Rattle.std.specs.Prelude.{ℕ, ◌-◌, true, List, eqb, Result, Ok, Err, Some}
 use Rattle.words.specs.rules.Choice.{pick}
 use Rattle.opcodes.specs.rules.Answers.{accepted}
 use Rattle.opcodes.specs.rules.Opcodes.{looked_up}
 use Rattle.opcodes.specs.declared.Command.{Command}
-use Rattle.opcodes.specs.declared.Found.{Found}
-use Rattle.opcodes.specs.declared.Found.TheVariants.{Known, Retired, Unknown}
 use Rattle.opcodes.specs.declared.Mode.TheVariants.{Sent}
-use Rattle.opcodes.specs.declared.Refusal.TheVariants as refusal
+use Rattle.opcodes.specs.rules.Refusals as refusal
+use Rattle.opcodes.specs.declared.Known.{Known}
+use Rattle.opcodes.specs.declared.Refusal.{Refusal}
 use Rattle.ledger.specs.rules.Totals.{turned}
 use Rattle.machine_answers.specs.rules.Answers.{tallied, changed, await, refused, said, quiet, WordOutcome, ◌leaving◌}
 use Rattle.machine_loads.specs.rules.Loads.{data_taken}
@@ -45,10 +45,9 @@ abbrev pub opening : ℕ → WordOutcome → WordOutcome
 opening opcode o = acknowledging opcode o.answer leaving o.memory
 
 -- an opcode, by what the table says of it: 6 or 15, or a command with as many words to come as its row has
-abbrev pub at_opcode : Core → List ℕ → ℕ → Found → WordOutcome
-at_opcode k m opcode Unknown = refused k refusal.Opcode leaving m
-at_opcode k m opcode Retired = refused k refusal.Retired leaving m
-at_opcode k m opcode (Known command words) = opening opcode (toward command words (begun command k) m none_kept 0)
+abbrev pub at_opcode : Core → List ℕ → ℕ → Result Known Refusal → WordOutcome
+at_opcode k m opcode (Err q) = refused k (Some q) leaving m
+at_opcode k m opcode (Ok known) = opening opcode (toward known.command known.words (begun known.command k) m none_kept 0)
 
 -- a whole word, by the phase that awaits it
 abbrev pub in_phase : Phase → Core → List ℕ → ℕ → WordOutcome

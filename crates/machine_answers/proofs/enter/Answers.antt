@@ -1,16 +1,16 @@
--- `machine_answers::enter` meets its contract: the refusal's number is 0 exactly where there is none.
-use mathlib.Core.Path.{sym, ◌∙◌}
-use borrow.Author.Tests.{eq-eqb, ne_eqb}
+-- `machine_answers::enter` meets its contract: a word is accepted exactly where nothing is refused.
+use mathlib.Core.Path.{sym}
 use Rattle.words.proofs.Choice.{chosen, passed}
+use Rattle.opcodes.proofs.Verdicts.{accepted_by}
 use Rattle.machine_answers.specs.rules.Answers.{entered}
 use Rattle.machine_answers.proofs.enter.Goals as goal
 
-pub returns-then-code-eq0 : goal.returns-then-code-eq0
+pub returns-then-is_none : goal.returns-then-is_none
 unfolding entered
-returns-then-code-eq0 c =
+returns-then-is_none c =
     rw (c.stopped-last.ensures, c.last_reply-last.ensures)
-    (sym (chosen _ _ _ (eq-eqb _ _ (sym c.code.ensures ∙ c.if-code-eq0.true))))
+    (sym (chosen _ _ _ (accepted_by _ c.is_none.ensures c.if-is_none.true)))
 
 pub returns : goal.returns
 unfolding entered
-returns c = sym (passed _ _ _ (ne_eqb _ _ (rw c.code.ensures at c.if-code-eq0.false)))
+returns c = sym (passed _ _ _ (accepted_by _ c.is_none.ensures c.if-is_none.false))

@@ -3,8 +3,8 @@ use Rattle.std.specs.Prelude.{ℕ, Bool, true, List}
 use Rattle.words.specs.rules.Choice.{pick}
 use Rattle.opcodes.specs.rules.Answers.{accepted}
 use Rattle.opcodes.specs.declared.Event.TheVariants.{Nothing}
-use Rattle.opcodes.specs.declared.Refusal.{Refusal}
-use Rattle.opcodes.specs.declared.Refusal.TheVariants as refusal
+use Rattle.opcodes.specs.rules.Refusals.{Verdict}
+use Rattle.opcodes.specs.rules.Refusals as refusal
 use Rattle.ledger.specs.rules.Totals.{from_one}
 use Rattle.ledger.specs.declared.Totals.{Totals}
 use Rattle.commands.specs.rules.Wrote.{none_wrote}
@@ -44,7 +44,7 @@ abbrev pub stop : Core → Core
 stop k = changed k true k.on k.begun k.tally k.stage.phase
 
 -- refused: no reply, no event, the session ended
-abbrev pub refused : Core → Refusal → Taken
+abbrev pub refused : Core → Verdict → Taken
 refused k q = record { refusal = q; reply = silence; event = Nothing; core = stop k; wrote = none_wrote }
 
 -- accepted, with a reply

@@ -3,8 +3,7 @@ use Rattle.std.specs.Prelude.{ℕ}
 use Rattle.opcodes.specs.declared.Refusal.TheVariants as refusal
 use Rattle.ledger.specs.rules.Totals.{would_pass, counted, is_spent, numbered}
 use Rattle.ledger.specs.declared.Totals.{Totals}
-use Rattle.commands.specs.rules.Commands.{barred}
-use Rattle.commands.specs.declared.Judged.{Judged}
+use Rattle.commands.specs.rules.Commands.{barred, Judged}
 use Rattle.machine_answers.specs.declared.Core.{Core}
 
 -- the totals with one more section of so many bytes, and its number taken

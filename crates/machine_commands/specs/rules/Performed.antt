@@ -5,13 +5,14 @@ use Rattle.opcodes.specs.declared.Command.{Command}
 use Rattle.opcodes.specs.declared.Command.TheVariants as command
 use Rattle.opcodes.specs.declared.Dialect.{Dialect}
 use Rattle.opcodes.specs.declared.Dialect.TheVariants.{Am17xx, Dm648}
-use Rattle.opcodes.specs.declared.Refusal.TheVariants as refusal
+use Rattle.opcodes.specs.declared.Refusal.TheVariants as why
+use Rattle.opcodes.specs.rules.Refusals as refusal
 use Rattle.ledger.specs.rules.Totals.{standing, differs, numbered}
 use Rattle.ledger.specs.declared.Standing.{Standing}
 use Rattle.ledger.specs.declared.Totals.{Totals}
 use Rattle.commands.specs.rules.Commands.{barred, fill_judged, fill_done, fill_memory, setting_judged, setting_done, setting_memory, entry_judged, close_done}
+use Rattle.commands.specs.rules.Commands.{Judged}
 use Rattle.commands.specs.rules.Wrote.{bytes_wrote, setting_wrote}
-use Rattle.commands.specs.declared.Judged.{Judged}
 use Rattle.machine_answers.specs.rules.Answers.{changed, await, with_checksum, refused, said, quiet, writing, WordOutcome, ◌leaving◌, after, entered}
 use Rattle.machine_answers.specs.rules.Counts.{counted_on, overflowing, out_of_numbers}
 use Rattle.machine_loads.specs.rules.Loads.{load_taken}
@@ -51,7 +52,7 @@ request_taken k m = said (one_word k.tally.checksum) (await k (with_checksum k 0
 
 -- Jump & Close: 10, then 17 where the totals that it names are not those that stand
 abbrev pub close_judged : Core → ℕ → Standing → Judged
-close_judged k address named = barred (differs k.dialect k.tally.totals named) refusal.Totals (entry_judged k.windows address)
+close_judged k address named = barred (differs k.dialect k.tally.totals named) why.Totals (entry_judged k.windows address)
 
 abbrev pub close_taken : Core → List ℕ → ℕ → Standing → WordOutcome
 close_taken k m address named =

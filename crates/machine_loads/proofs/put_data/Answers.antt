@@ -5,7 +5,7 @@ use mathlib.Core.Path.{◌≡◌, sym}
 use native.Mathlib.Omega.{arith}
 use lib.ListN.{length}
 use Rattle.words.specs.rules.Bytes.{put}
-use Rattle.words.proofs.Puts.{length_put, put_more, put_past}
+use Rattle.words.proofs.Puts.{put_more, put_past}
 use Rattle.stores.specs.rules.Stores.{loaded}
 use Rattle.machine_loads.specs.rules.Loads.{data_bytes}
 use Rattle.machine_loads.proofs.Laws.{data_byte, data_length}
@@ -22,23 +22,11 @@ loop-i-init c = search rules
 pub loop-i-preserved : goal.loop-i-preserved
 loop-i-preserved c =
     let a = c.args in
-    let inv = c.loop-i.invariant in
-    let h : c.loop-i.i < min a.left 4 = omega arith in (
-      omega arith,
-      rw (put_more, data_byte a.word a.left _ h, ← inv.1, ← c.byte_of.ensures)
-          c.put_byte.ensures,
-    )
-
-pub shape_of-memory : goal.shape_of-memory
-shape_of-memory c = rw c.loop-i.invariant.1 (length_put _ _ _ _)
+    let h : c.loop-i.i < min a.left 4 = omega arith in
+    rw (put_more, data_byte a.word a.left _ h, ← c.loop-i.invariant, ← c.byte_of.ensures) c.put_byte.ensures
 
 pub returns : goal.returns
 unfolding loaded
 returns c =
-    let all : length (data_bytes c.args.word c.args.left)
-    ≡ c.loop-i.i = omega (
-      arith,
-      data_length c.args.word
-          c.args.left,
-    ) in
-    rw all c.loop-i.invariant.1
+    let all : length (data_bytes c.args.word c.args.left) ≡ c.loop-i.i = omega (arith, data_length c.args.word c.args.left) in
+    rw all c.loop-i.invariant

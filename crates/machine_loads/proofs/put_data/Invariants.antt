@@ -1,5 +1,4 @@
 -- What each turn keeps.
-use Prim.Native.Nat.{◌-◌, ◌≤◌}
 use mathlib.Core.Path.{◌≡◌}
 use lib.ListN.{get_or}
 use Rattle.words.specs.rules.Bytes.{put}
@@ -7,7 +6,4 @@ use Rattle.machine_loads.specs.rules.Loads.{data_bytes}
 use Rattle.machine_loads.proofs.put_data.Given as goal
 
 abbrev pub invariant-loop-i : goal.invariant-loop-i
-invariant-loop-i l = (l.i ≤ l.count) × (l.memory ≡ put l.initial.memory l.at l.i (λ k. get_or (data_bytes l.word l.left) k 0))
-
-abbrev pub decreases-loop-i : goal.decreases-loop-i
-decreases-loop-i l = l.count - l.i
+invariant-loop-i l = l.memory ≡ put l.initial.memory l.at l.i (λ k. get_or (data_bytes l.word l.left) k 0)

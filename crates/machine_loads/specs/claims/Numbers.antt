@@ -1,6 +1,6 @@
 -- A load by line takes its number at its size word, and all its data are told by it (02, request 6).
 use Rattle.std.specs.Prelude.{ℕ, ◌<◌, List, ◌≡◌}
-use Rattle.opcodes.specs.declared.Refusal.TheVariants.{None}
+use Rattle.opcodes.specs.rules.Refusals.{None}
 use Rattle.machine_loads.specs.rules.Loads.{load_taken, data_taken}
 use Rattle.machine_answers.specs.declared.Core.{Core}
 

@@ -1,5 +1,5 @@
 -- The opcode table of document 01, with the dialects of request 5 of 02, and what it says of an opcode in a mode and a dialect.
-use Rattle.std.specs.Prelude.{ℕ, Bool, true, false, ◌&&◌, List, [], ◌∷◌, eqb}
+use Rattle.std.specs.Prelude.{ℕ, Bool, true, false, ◌&&◌, List, [], ◌∷◌, eqb, Result, Ok, Err}
 use Rattle.words.specs.rules.Choice.{pick}
 use Rattle.opcodes.specs.declared.Command.{Command}
 use Rattle.opcodes.specs.declared.Command.TheVariants.{Load, Fill, BootTable, Enable, Disable, Request, StartOver, JumpAndClose, Ping, SequentialRead}
@@ -8,8 +8,9 @@ use Rattle.opcodes.specs.declared.Dialect.TheVariants.{Am17xx, Dm648}
 use Rattle.opcodes.specs.declared.Mode.{Mode}
 use Rattle.opcodes.specs.declared.Mode.TheVariants.{Sent, Flash}
 use Rattle.opcodes.specs.declared.Row.{Row}
-use Rattle.opcodes.specs.declared.Found.{Found}
-use Rattle.opcodes.specs.declared.Found.TheVariants.{Known, Retired, Unknown}
+use Rattle.opcodes.specs.declared.Known.{Known}
+use Rattle.opcodes.specs.declared.Refusal.{Refusal}
+use Rattle.opcodes.specs.declared.Refusal.TheVariants as refusal
 
 -- a row by the modes and the dialects that allow it
 abbrev pub row_of : Bool → Bool → Bool → Bool → ℕ → Command → ℕ → Row
@@ -71,15 +72,19 @@ allowed row mode dialect = in_mode row mode && in_dialect row dialect
 unfoldable pub row_serves : Row → ℕ → Mode → Dialect → Bool
 row_serves row opcode mode dialect = eqb row.opcode opcode && allowed row mode dialect
 
--- the first row of the opcode that the mode and the dialect allow
-unfoldable pub found_in : List Row → ℕ → Mode → Dialect → Found
-found_in [] opcode mode dialect = Unknown
-found_in (row ∷ rest) opcode mode dialect =
-    pick (row_serves row opcode mode dialect) (Known row.command row.words) (found_in rest opcode mode dialect)
+-- a command with so many argument words
+abbrev pub with_words : Command → ℕ → Known
+with_words command words = record { command = command; words = words }
 
--- what the table says of an opcode in a mode and a dialect
-unfoldable pub looked_up : ℕ → Mode → Dialect → Found
-looked_up opcode mode dialect = pick (eqb opcode retired) Retired (found_in rows opcode mode dialect)
+-- the first row of the opcode that the mode and the dialect allow; 6 where there is none
+unfoldable pub found_in : List Row → ℕ → Mode → Dialect → Result Known Refusal
+found_in [] opcode mode dialect = Err refusal.Opcode
+found_in (row ∷ rest) opcode mode dialect =
+    pick (row_serves row opcode mode dialect) (Ok (with_words row.command row.words)) (found_in rest opcode mode dialect)
+
+-- what the table says of an opcode in a mode and a dialect; 15 where it is retired
+unfoldable pub looked_up : ℕ → Mode → Dialect → Result Known Refusal
+looked_up opcode mode dialect = pick (eqb opcode retired) (Err refusal.Retired) (found_in rows opcode mode dialect)
 
 -- a choice by what a command writes: the bytes of a load, of a fill, the bits of a setting, or nothing
 abbrev pub by_writing : {A : Type 0} → Command → A → A → A → A → A

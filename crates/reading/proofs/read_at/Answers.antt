@@ -10,7 +10,7 @@ use Rattle.reading.proofs.read_at.Goals as goal
 pub returns-then-image-at : goal.returns-then-image-at
 returns-then-image-at c =
     let a = c.args in
-    sym (read_none a.image.now a.offset a.dialect c.if-image-at.true)
+    rw c.missing.ensures (sym (read_none a.image.now a.offset a.dialect c.if-image-at.true))
 
 pub returns : goal.returns
 returns c =

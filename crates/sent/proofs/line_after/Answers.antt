@@ -1,11 +1,11 @@
--- `sent::line_after` meets its contract: the refusal's number is 0 exactly where there is none.
-use mathlib.Core.Path.{sym, ◌∙◌}
-use borrow.Author.Tests.{eq-eqb, ne_eqb}
+-- `sent::line_after` meets its contract: it is accepted exactly where nothing is refused.
+use mathlib.Core.Path.{sym}
 use Rattle.words.proofs.Choice.{chosen, passed}
+use Rattle.opcodes.proofs.Verdicts.{accepted_by}
 use Rattle.sent.proofs.line_after.Goals as goal
 
-pub returns-then-code-eq0 : goal.returns-then-code-eq0
-returns-then-code-eq0 c = sym (chosen _ _ _ (eq-eqb _ _ (sym c.code.ensures ∙ c.if-code-eq0.true)))
+pub returns-then-is_none : goal.returns-then-is_none
+returns-then-is_none c = sym (chosen _ _ _ (accepted_by _ c.is_none.ensures c.if-is_none.true))
 
 pub returns : goal.returns
-returns c = sym (passed _ _ _ (ne_eqb _ _ (rw c.code.ensures at c.if-code-eq0.false)))
+returns c = sym (passed _ _ _ (accepted_by _ c.is_none.ensures c.if-is_none.false))

@@ -3,11 +3,11 @@ use Rattle.std.specs.Prelude.{ℕ, ◌-◌, ◌/◌, ◌%◌, ◌^◌, ◌<◌, 
 use Prim.Native.Char.{code}
 use Rattle.windows.specs.rules.Window.{sum_of}
 use Rattle.windows.specs.declared.Window.{Window}
-use Rattle.opcodes.specs.rules.Answers.{code_of}
+use Rattle.opcodes.specs.rules.Answers.{code_of, accepted}
 use Rattle.opcodes.specs.declared.Dialect.{Dialect}
 use Rattle.opcodes.specs.declared.Event.TheVariants.{Nothing}
-use Rattle.opcodes.specs.declared.Refusal.{Refusal}
-use Rattle.opcodes.specs.declared.Refusal.TheVariants.{None, Memory, Ended}
+use Rattle.opcodes.specs.rules.Refusals.{Verdict}
+use Rattle.opcodes.specs.rules.Refusals.{None, Memory, Ended}
 use Rattle.sent.specs.rules.Bus.{unit_bits, units_in_word, start_unit, units_of, first_unit}
 use Rattle.sent.specs.rules.Feeding.{State, Heard, heard, fed, answers}
 use Rattle.machine.specs.rules.Machine.{word_step}
@@ -27,7 +27,7 @@ at_word k m = record { session = record { core = k; line = record { started = tr
 abbrev pub silent : Heard
 silent = record { refusal = None; reply = silence; event = Nothing }
 
-abbrev pub refused_by : Refusal → Heard
+abbrev pub refused_by : Verdict → Heard
 refused_by q = record { refusal = q; reply = silence; event = Nothing }
 
 -- heard of the units of a word: nothing until the last, whose answer is the word's
@@ -58,7 +58,7 @@ pub record UnitsAreTheWord (bus : Bus) (k : Core) (m : List ℕ) (word : ℕ) : 
       × ((fed bus (at_word k m) (units_of bus word)).memory ≡ m)
 
 -- a session that absorbs all units: it stays as it is, and each is refused alike
-pub record Absorbed (bus : Bus) (x : State) (units : List ℕ) (q : Refusal) : Type 0 where
+pub record Absorbed (bus : Bus) (x : State) (units : List ℕ) (q : Verdict) : Type 0 where
   pub stays : fed bus x units ≡ x
   pub hears : answers bus x units ≡ replicate (length units) (refused_by q)
 

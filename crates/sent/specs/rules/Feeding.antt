@@ -3,8 +3,8 @@ use Rattle.std.specs.Prelude.{ℕ, List, [], ◌∷◌, ◌++◌, ◌≡◌, eqb
 use Rattle.words.specs.rules.Choice.{pick}
 use Rattle.opcodes.specs.rules.Answers.{code_of, told}
 use Rattle.opcodes.specs.declared.Event.{Event}
-use Rattle.opcodes.specs.declared.Refusal.{Refusal}
-use Rattle.opcodes.specs.declared.Refusal.TheVariants.{None}
+use Rattle.opcodes.specs.rules.Refusals.{Verdict}
+use Rattle.opcodes.specs.rules.Refusals.{None}
 use Rattle.ledger.specs.declared.Totals.{Totals}
 use Rattle.sent.specs.rules.Line.{unit_step}
 use Rattle.sent.specs.declared.Bus.{Bus}
@@ -27,7 +27,7 @@ totals x = x.session.core.tally.totals
 
 -- what the host hears of a unit
 pub record Heard : Type 0 where
-  pub refusal : Refusal
+  pub refusal : Verdict
   pub reply : Reply
   pub event : Event
 

@@ -5,8 +5,8 @@ use Rattle.words.specs.rules.Choice.{pick}
 use Rattle.windows.specs.rules.Window.{sum_of}
 use Rattle.opcodes.specs.rules.Answers.{accepted}
 use Rattle.opcodes.specs.declared.Event.TheVariants.{Nothing}
-use Rattle.opcodes.specs.declared.Refusal.{Refusal}
-use Rattle.opcodes.specs.declared.Refusal.TheVariants as refusal
+use Rattle.opcodes.specs.rules.Refusals.{Verdict}
+use Rattle.opcodes.specs.rules.Refusals as refusal
 use Rattle.commands.specs.rules.Wrote.{none_wrote}
 use Rattle.sent.specs.rules.Bus.{unit_bits, units_in_word, start_unit, answer_unit, pushed}
 use Rattle.machine_answers.specs.rules.Answers as machine
@@ -23,7 +23,7 @@ pub record UnitOutcome : Type 0 where
   pub memory : List ℕ
 
 -- an answer with no event, the memory as it was
-abbrev pub plainly : Refusal → Reply → Session → List ℕ → UnitOutcome
+abbrev pub plainly : Verdict → Reply → Session → List ℕ → UnitOutcome
 plainly q reply s m = record { answer = record { refusal = q; reply = reply; event = Nothing; session = s; wrote = none_wrote }; memory = m }
 
 -- the session with other things gathered on the line

@@ -6,7 +6,7 @@ use Rattle.windows.specs.declared.Window.{Window}
 use Rattle.opcodes.specs.rules.Answers.{accepted}
 use Rattle.opcodes.specs.declared.Dialect.{Dialect}
 use Rattle.opcodes.specs.declared.Dialect.TheVariants.{Am17xx}
-use Rattle.opcodes.specs.declared.Refusal.TheVariants.{None, Map}
+use Rattle.opcodes.specs.rules.Refusals.{None, Map}
 use Rattle.ledger.specs.rules.Totals.{at_opening}
 use Rattle.machine_answers.specs.rules.Answers.{numbered_from_one}
 use Rattle.machine_answers.specs.rules.Replies.{silence}

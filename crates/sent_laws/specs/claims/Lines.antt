@@ -3,7 +3,7 @@
 use Rattle.std.specs.Prelude.{ℕ, ◌^◌, ◌<◌, false, List, [], ◌∷◌, ◌≡◌, length}
 use Rattle.windows.specs.rules.Window.{sum_of}
 use Rattle.opcodes.specs.declared.Event.TheVariants.{Nothing}
-use Rattle.opcodes.specs.declared.Refusal.TheVariants.{None}
+use Rattle.opcodes.specs.rules.Refusals.{None}
 use Rattle.machine_answers.specs.declared.Core.{Core}
 use Rattle.machine.specs.rules.Machine.{word_step}
 use Rattle.sent.specs.claims.Lift.{at_word, Plain}

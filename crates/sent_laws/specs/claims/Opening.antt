@@ -1,7 +1,7 @@
 -- What an opening says of every session that it leads to: in AM17xx there are no totals, and a session that was to number its commands does.
 use Rattle.std.specs.Prelude.{true, ◌≡◌}
 use Rattle.opcodes.specs.declared.Dialect.TheVariants.{Am17xx}
-use Rattle.opcodes.specs.declared.Refusal.TheVariants.{None}
+use Rattle.opcodes.specs.rules.Refusals.{None}
 use Rattle.ledger.specs.claims.Agreement.{Zero}
 use Rattle.machine.specs.claims.Wrote.{KeepsNumbers}
 use Rattle.sent.specs.declared.Bus.{Bus}

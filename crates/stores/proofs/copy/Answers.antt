@@ -1,35 +1,16 @@
--- `stores::copy` meets its contract: after i turns the first i bytes are written, and those that would pass the end are none.
-use Prim.Native.Nat.{ℕ, ◌-◌, min}
-use mathlib.Core.Path.{◌≡◌, sym, ap, ◌∙◌}
-use lib.ListN.{length, get_or}
-use Rattle.words.specs.rules.Bytes.{put}
-use borrow.Author.Rules.{rules}
+-- `stores::copy` meets its contract: the bytes that fit are copied over their part of the memory, and those that would pass the end are none.
+use mathlib.Core.Path.{sym}
 use native.Mathlib.Omega.{arith}
-use Rattle.words.proofs.Puts.{length_put, put_more, put_past, put_clamped}
+use Rattle.words.proofs.Puts.{put_past}
 use Rattle.stores.specs.rules.Stores.{loaded}
+use Rattle.stores.proofs.Loading.{loaded_copied}
 use Rattle.stores.proofs.copy.Goals as goal
 
 pub returns-then-memory-place : goal.returns-then-memory-place
 unfolding loaded
 returns-then-memory-place c = sym (put_past _ _ _ _ c.if-memory-place.true)
 
-pub loop-i-init : goal.loop-i-init
-unfolding put
-loop-i-init c = search rules
-
-pub bounds-memory-place : goal.bounds-memory-place
-bounds-memory-place c = rw (c.loop-i.invariant.1, length_put) (omega arith)
-
-pub loop-i-preserved : goal.loop-i-preserved
-loop-i-preserved c = (omega arith, rw (put_more, ← c.loop-i.invariant.1))
-
-pub shape_of-memory : goal.shape_of-memory
-shape_of-memory c = rw c.loop-i.invariant.1 (length_put _ _ _ _)
-
 pub returns : goal.returns
-unfolding loaded
 returns c =
     let a = c.args in
-    let all : c.loop-i.i ≡ min (length a.bytes.now) (length a.memory.now - a.place) = omega arith in
-    c.loop-i.invariant.1 ∙ ap (λ (k : ℕ). put a.memory.now a.place k (λ (i : ℕ). get_or a.bytes.now i 0)) all
-    ∙ sym (put_clamped a.memory.now a.place (length a.bytes.now) (λ (i : ℕ). get_or a.bytes.now i 0))
+    loaded_copied a.memory.now a.bytes.now _ a.place c.min-n.result _ c.if-memory-place.false c.min-n.ensures (omega arith) c.copy_from_slice.ensures.after

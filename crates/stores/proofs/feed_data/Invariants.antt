@@ -1,13 +1,11 @@
--- What each turn keeps.
-use Prim.Native.Nat.{◌+◌, ◌-◌, ◌/◌}
+-- What each turn keeps: the bytes that are left lead to the same end.
+use Prim.Native.Nat.{◌+◌, ◌/◌}
 use mathlib.Core.Path.{◌≡◌}
-use lib.ListN.{length, drop}
+use lib.ListN.{length}
 use Rattle.stores.specs.rules.Stores.{words_fed}
 use Rattle.stores.proofs.feed_data.Given as goal
 
-abbrev pub invariant-loop-at : goal.invariant-loop-at
-invariant-loop-at l = words_fed l.reached ((length l.bytes - l.at + 3) / 4) (drop l.at l.bytes) ≡ words_fed l.checksum ((length l.bytes + 3) / 4)
-    l.bytes
-
-abbrev pub decreases-loop-at : goal.decreases-loop-at
-decreases-loop-at l = length l.bytes - l.at
+abbrev pub invariant-loop-word : goal.invariant-loop-word
+invariant-loop-word l =
+    (l.word-iterator.size ≡ 4)
+    × (words_fed l.reached ((length l.word-iterator.rest.now + 3) / 4) l.word-iterator.rest.now ≡ words_fed l.checksum ((length l.bytes + 3) / 4) l.bytes)

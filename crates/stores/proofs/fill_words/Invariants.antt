@@ -1,12 +1,9 @@
 -- What each turn keeps.
-use Prim.Native.Nat.{◌-◌, ◌*◌, ◌≤◌}
+use Prim.Native.Nat.{◌*◌}
 use mathlib.Core.Path.{◌≡◌}
 use Rattle.words.specs.declared.Unit.TheVariants.{Four}
 use Rattle.stores.specs.rules.Stores.{filled}
 use Rattle.stores.proofs.fill_words.Given as goal
 
 abbrev pub invariant-loop-i : goal.invariant-loop-i
-invariant-loop-i l = (l.i ≤ l.count) × (l.memory ≡ filled l.initial.memory l.place (4 * l.i) Four l.word)
-
-abbrev pub decreases-loop-i : goal.decreases-loop-i
-decreases-loop-i l = l.count - l.i
+invariant-loop-i l = l.memory ≡ filled l.initial.memory l.place (4 * l.i) Four l.word

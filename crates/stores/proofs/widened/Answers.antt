@@ -12,7 +12,3 @@ returns-in-One c = rw c.in-One.is (copies_round 1 c.args.pattern 4 (omega arith)
 pub returns-in-Two : goal.returns-in-Two
 unfolding copies join
 returns-in-Two c = rw c.in-Two.is (copies_round 2 c.args.pattern 2 (omega arith) (lit< tt))
-
-pub returns-in-Four : goal.returns-in-Four
-unfolding copies join
-returns-in-Four c = rw c.in-Four.is (copies_round 4 c.args.pattern 1 (omega arith) (lit< tt))

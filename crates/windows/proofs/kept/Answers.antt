@@ -1,22 +1,20 @@
 -- `windows::kept` meets its contract: to keep the first count of the windows as they are now, or as many as were looked at, gives what was asked of the windows
 -- at the start.
-use mathlib.Core.Path.{ap, ◌∙◌}
-use Prim.Native.Nat.{ℕ, max}
-use borrow.Author.Rules.{rules}
+use mathlib.Core.Path.{◌∙◌}
+use Prim.Native.Nat.{max}
 use native.Mathlib.Omega.{arith}
-use Rattle.windows.specs.rules.Map.{kept_of}
-use Rattle.windows.proofs.Left.{kept_cleared, kept_all}
+use lib.ListN.{length-set}
+use Rattle.windows.proofs.Left.{kept_past, kept_counted, kept_all}
 use Rattle.windows.proofs.kept.Goals as goal
-
-pub loop-i-init : goal.loop-i-init
-loop-i-init c = (search rules, search rules, ap (λ (n : ℕ). kept_of n c.args.windows) (omega arith))
+use Rattle.windows.proofs.kept.Goals.{then-count-i, else-count-i}
 
 pub loop-i-preserved : goal.loop-i-preserved
-loop-i-preserved c = (
-  search rules,
-  search rules,
-  rw c.cleared-next.ensures (kept_cleared _ _ _ (search rules) (search rules) ∙ c.loop-i.invariant.2),
-)
+loop-i-preserved c =
+    let inv = c.loop-i.invariant in
+    elim c.if-count-i.branch [
+      | then-count-i w ↦ rw w.left-is (length-set _ _ _ ∙ inv.0, kept_past _ _ _ inv.0 (omega arith) w.if-count-i.true ∙ inv.1)
+      | else-count-i w ↦ rw w.left-is (inv.0, kept_counted _ _ _ w.if-count-i.false ∙ inv.1)
+    ]
 
 pub returns : goal.returns
-returns c = kept_all _ (max c.loop-i.i c.args.count) (omega arith) (omega arith) ∙ c.loop-i.invariant.2
+returns c = kept_all _ (max c.loop-i.i c.args.count) (omega arith) (omega arith) ∙ c.loop-i.invariant.1

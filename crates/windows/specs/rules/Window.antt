@@ -1,11 +1,9 @@
 -- A window of addresses, the ranges that it grants, and where a granted range lies in the lent memory.
-use Rattle.std.specs.Prelude.{ℕ, ◌+◌, ◌-◌, ◌/◌, ◌%◌, Bool, false, ◌&&◌, ◌||◌, List, [], ◌∷◌, leb, ltb, eqb}
+use Rattle.std.specs.Prelude.{ℕ, ◌+◌, ◌-◌, ◌/◌, ◌%◌, Bool, false, ◌&&◌, ◌||◌, List, [], ◌∷◌, leb, ltb, eqb, Option, Some, None}
 use Rattle.words.specs.rules.Choice.{pick}
 use Rattle.windows.specs.declared.Window.{Window}
 use Rattle.windows.specs.declared.Right.{Right}
 use Rattle.windows.specs.declared.Right.TheVariants.{Load, Set, Entry}
-use Rattle.windows.specs.declared.Place.{Place}
-use Rattle.windows.specs.declared.Place.TheVariants.{At, Nowhere}
 
 -- the number of a right; a window's rights are such numbers added
 abbrev pub right_bit : Right → ℕ
@@ -44,13 +42,13 @@ abbrev pub chain_grants : Window → List Window → Right → ℕ → ℕ → B
 chain_grants w ws right a n = holds_address w right a && carries_on ws right (end_of w) (a + n)
 
 -- where a range lies by the first chain that grants it, the windows' bytes one after another from a base on
-unfoldable pub place_from : ℕ → List Window → Right → ℕ → ℕ → Place
-place_from base [] right a n = Nowhere
+unfoldable pub place_from : ℕ → List Window → Right → ℕ → ℕ → Option ℕ
+place_from base [] right a n = None
 place_from base (w ∷ ws) right a n =
-    pick (chain_grants w ws right a n) (At (base + (a - w.first))) (place_from (base + w.length) ws right a n)
+    pick (chain_grants w ws right a n) (Some (base + (a - w.first))) (place_from (base + w.length) ws right a n)
 
 -- where a range lies in the lent memory
-unfoldable pub place_of : List Window → Right → ℕ → ℕ → Place
+unfoldable pub place_of : List Window → Right → ℕ → ℕ → Option ℕ
 place_of ws right a n = place_from 0 ws right a n
 
 -- the sum of the windows' lengths

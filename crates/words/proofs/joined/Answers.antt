@@ -2,11 +2,10 @@
 use Prim.Native.Nat.{◌*◌, ◌%◌, ◌^◌}
 use mathlib.Core.Path.{◌≡◌, ◌∙◌}
 use native.Mathlib.Omega.{arith}
-use native.Mathlib.Nat.{lt_of_lt_of_le, one-mul}
+use native.Mathlib.Nat.{one-mul}
 use lib.Dec.{lit<}
-use lib.Pow.{pow_pos, pow_mono, shl_exact}
+use lib.Pow.{shl_exact}
 use Rattle.words.specs.rules.Bits.{join}
-use Rattle.words.proofs.Joins.{join_lt}
 use Rattle.words.proofs.joined.Goals as goal
 
 module _ (c : goal.Start) where
@@ -15,14 +14,6 @@ module _ (c : goal.Start) where
 
   shifted : c.args.high * 2 ^ c.args.bits % 2 ^ 64 ≡ c.args.high * 2 ^ c.args.bits
   shifted = shl_exact 32 c.args.bits 64 c.requires.1 (omega arith)
-
-pub nonzero_rem-result : goal.nonzero_rem-result
-nonzero_rem-result c = rw (power c) (pow_pos c.args.bits)
-
-pub overflow_add-result : goal.overflow_add-result
-unfolding join
-overflow_add-result c =
-    record { fits = rw (power c, shifted c) (lt_of_lt_of_le (join_lt c.args.bits 32 c.args.low c.requires.1) (pow_mono {j = 64} (omega arith))) }
 
 pub returns : goal.returns
 unfolding join

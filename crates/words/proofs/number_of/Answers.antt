@@ -3,11 +3,6 @@ use mathlib.Core.Path.{◌∙◌}
 use Rattle.words.proofs.Numbers.{first_four}
 use Rattle.words.proofs.number_of.Goals as goal
 
-pub returns-then-s-ge4 : goal.returns-then-s-ge4
-returns-then-s-ge4 c =
-    let s = c.args.s.now in
-    c.number_by.ensures ∙ first_four s
-
 pub returns : goal.returns
 returns c =
     let s = c.args.s.now in

@@ -1,13 +1,10 @@
 -- `words::with_field` meets its contract: it is the definition, and nothing of it passes 32 bits.
 use native.Mathlib.Omega.{arith}
-use native.Mathlib.Nat.{lt_of_le_of_lt, lt_of_lt_of_le}
-use lib.Pow.{pow_mono, shr_le}
+use native.Mathlib.Nat.{lt_of_lt_of_le}
+use lib.Pow.{pow_mono}
 use Rattle.words.specs.rules.Bits.{with_field}
 use Rattle.words.proofs.Joins.{above_lt, with_field_lt}
 use Rattle.words.proofs.with_field.Goals as goal
-
-pub joined-above-requires : goal.joined-above-requires
-joined-above-requires c = (omega arith, lt_of_le_of_lt (shr_le _ _) c.ranges.word.fits)
 
 pub joined-requires : goal.joined-requires
 joined-requires c =

@@ -1,9 +1,7 @@
--- `bench::registers::ais_register_read` meets its contract: the text is read, and its value told.
+-- `bench::registers::ais_register_read` meets its contract: the count or the refusal is told.
+use mathlib.Core.Path.{sym, ◌∙◌}
 use Rattle.field_register.proofs.Bounds.{line_low}
 use Rattle.bench.proofs.registers.ais_register_read.Goals as goal
 
-pub read_value-requires : goal.read_value-requires
-read_value-requires c = rw c.read.ensures (line_low c.args.text.now)
-
-pub returns : goal.returns
-returns c = rw (c.read_value.ensures, c.read.ensures)
+pub refuse_text-requires : goal.refuse_text-requires
+refuse_text-requires c = line_low c.args.text.now _ (sym c.read.ensures ∙ c.in-Err.is)

@@ -1,19 +1,27 @@
--- `exchange::feeding::first_but_ended` meets its contract: each way is one case of the definition.
-use mathlib.Core.Path.{sym, ◌∙◌}
-use Rattle.opcodes.specs.rules.Answers.{code_of}
-use Rattle.exchange.proofs.Hearing.{keeps_first, counts_none, counts_code}
+-- `exchange::feeding::first_but_ended` meets its contract: 14 and none leave the first as it is, any other refusal comes after it.
+use mathlib.Core.Path.{sym, ap, ◌∙◌}
+use Rattle.opcodes.specs.rules.Refusals.{Verdict}
+use Rattle.std.specs.Option.{option_or}
+use Rattle.exchange.specs.rules.Exchange.{but_ended}
+use Rattle.exchange.proofs.Hearing.{first_none, counts, ended_counts, none_counts}
 use Rattle.exchange.proofs.feeding.first_but_ended.Goals as goal
 
-pub returns-then-first-ne0 : goal.returns-then-first-ne0
-returns-then-first-ne0 c = keeps_first _ (code_of c.args.refusal) c.if-first-ne0.true
+pub returns-in_default : goal.returns-in_default
+returns-in_default c = none_counts _ _ c.in_default.not-Some
 
-pub returns-then-code-eq14 : goal.returns-then-code-eq14
-returns-then-code-eq14 c =
+pub returns-then-eq : goal.returns-then-eq
+returns-then-eq c =
     let a = c.args in
-    counts_none a.first (code_of a.refusal) c.if-first-ne0.false (sym c.code-code.ensures ∙ c.if-code-eq14.true)
+    let uncounted = ended_counts _ (sym c.eq.ensures ∙ c.if-eq.true) in
+    sym (
+    ap (λ (q : Verdict). option_or a.first (but_ended q)) c.in-Some.is
+    ∙ ap (option_or a.first) uncounted
+    ∙ first_none a.first
+    )
 
 pub returns : goal.returns
 returns c =
     let a = c.args in
-    let known = c.code-code.ensures in
-    known ∙ counts_code a.first (code_of a.refusal) c.if-first-ne0.false (λ e. c.if-code-eq14.false (known ∙ e))
+    let counted = counts _ (sym c.eq.ensures ∙ c.if-eq.false) in
+    c.or.ensures
+    ∙ sym (ap (λ (q : Verdict). option_or a.first (but_ended q)) c.in-Some.is ∙ ap (option_or a.first) counted)

@@ -1,16 +1,23 @@
--- `flash_session::answers::finish` meets its contract: the refusal's number is 0 exactly where there is none.
-use Rattle.flash_session.specs.rules.Sessions.{after}
+-- `flash_session::answers::finish` meets its contract: a command is accepted exactly where nothing is refused.
+use mathlib.Core.Path.{sym, ap, ◌∙◌}
 use Rattle.words.proofs.Choice.{chosen, passed}
-use borrow.Author.Tests.{eq-eqb, ne_eqb}
-use mathlib.Core.Path.{sym, ◌∙◌}
+use Rattle.opcodes.specs.rules.Answers.{accepted}
+use Rattle.opcodes.specs.rules.Refusals.{Verdict}
+use Rattle.opcodes.proofs.Verdicts.{refused_not}
+use Rattle.flash_session.specs.rules.Sessions.{stopped, after}
 use Rattle.flash_session.proofs.answers.finish.Goals as goal
 
-pub returns-then-code-eq0 : goal.returns-then-code-eq0
+pub returns-in-None : goal.returns-in-None
 unfolding after
-returns-then-code-eq0 c =
+returns-in-None c =
     rw (c.proceed.ensures, c.moved-past.ensures, c.event_anew-event.ensures)
-    (sym (chosen _ _ _ (eq-eqb _ _ (sym c.code.ensures ∙ c.if-code-eq0.true))))
+    (sym (chosen _ _ _ (ap (λ (q : Verdict). accepted q) c.in-None.is)))
 
-pub returns : goal.returns
+pub returns-in-Some : goal.returns-in-Some
 unfolding after
-returns c = c.halt.ensures ∙ sym (passed _ _ _ (ne_eqb _ _ (rw c.code.ensures at c.if-code-eq0.false)))
+returns-in-Some c =
+    c.halt.ensures
+    ∙ sym (
+    passed _ _ _ (ap (λ (q : Verdict). accepted q) c.in-Some.is ∙ refused_not c.in-Some.refusal)
+    ∙ ap (λ (q : Verdict). stopped q c.args.session) c.in-Some.is
+    )

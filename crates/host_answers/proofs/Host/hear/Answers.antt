@@ -4,4 +4,4 @@ use Rattle.host_answers.proofs.Host.hear.Goals as goal
 
 pub returns : goal.returns
 unfolding heard
-returns c = rw c.hear-after.ensures
+returns c = rw c.hear.ensures

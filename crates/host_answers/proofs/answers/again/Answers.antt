@@ -7,17 +7,11 @@ use Rattle.words.proofs.Choice.{chosen, passed}
 use Rattle.host_answers.specs.rules.Answers.{again}
 use Rattle.host_answers.proofs.answers.again.Goals as goal
 
-pub returns-then-host-le1 : goal.returns-then-host-le1
+pub returns-then-saturating_sub-host : goal.returns-then-saturating_sub-host
 unfolding again
-returns-then-host-le1 c =
+returns-then-saturating_sub-host c =
     let h = c.args.host in
     c.refuse.ensures ∙ sym (chosen _ _ _ (le-leb h.tries (h.spent + 1) (omega arith)))
-
-pub returns-then-host : goal.returns-then-host
-unfolding again
-returns-then-host c =
-    let h = c.args.host in
-    c.refuse-then-host.ensures ∙ sym (chosen _ _ _ (le-leb h.tries (h.spent + 1) (omega arith)))
 
 pub returns : goal.returns
 unfolding again

@@ -3,8 +3,8 @@ use mathlib.Core.Path.{sym, ◌∙◌}
 use Rattle.words.proofs.Choice.{chosen, passed}
 use Rattle.host_answers.proofs.answers.repeat.Goals as goal
 
-pub returns-then-heard : goal.returns-then-heard
-returns-then-heard c = sym (chosen _ _ _ c.if-heard.true)
+pub returns-then-host : goal.returns-then-host
+returns-then-host c = sym (chosen _ _ _ c.if-host.true)
 
 pub returns : goal.returns
-returns c = c.repetition.ensures ∙ sym (passed _ _ _ c.if-heard.false)
+returns c = c.repetition.ensures ∙ sym (passed _ _ _ c.if-host.false)

@@ -7,5 +7,5 @@ use Rattle.host_answers.proofs.sendings.echo_of.Goals as goal
 pub returns-then-k-eq0 : goal.returns-then-k-eq0
 returns-then-k-eq0 c = sym (chosen _ _ _ (eq-eqb _ _ c.if-k-eq0.true))
 
-pub returns : goal.returns
-returns c = sym (passed _ _ _ (ne_eqb _ _ c.if-k-eq0.false))
+pub returns-else-k-eq0 : goal.returns-else-k-eq0
+returns-else-k-eq0 c = sym (passed _ _ _ (ne_eqb _ _ c.if-k-eq0.false))

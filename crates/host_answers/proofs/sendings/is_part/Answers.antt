@@ -3,10 +3,10 @@ use borrow.Author.Tests.{le-leb, lt-leb}
 use Rattle.host_answers.specs.rules.Sendings.{is_part}
 use Rattle.host_answers.proofs.sendings.is_part.Goals as goal
 
-pub returns-then-to-from : goal.returns-then-to-from
+pub returns-then-from-to : goal.returns-then-from-to
 unfolding is_part
-returns-then-to-from c = simp (lt-leb _ _ c.if-to-from.true)
+returns-then-from-to c = simp (le-leb _ _ c.if-from-to.true)
 
-pub returns : goal.returns
+pub returns-else-from-to : goal.returns-else-from-to
 unfolding is_part
-returns c = simp (le-leb _ _ c.if-to-from.false)
+returns-else-from-to c = simp (lt-leb _ _ c.if-from-to.false)

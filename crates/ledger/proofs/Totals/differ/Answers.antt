@@ -1,8 +1,7 @@
--- `ledger::Totals::differ` meets its contract, by the dialect.
+-- `ledger::Totals::differ` meets its contract: two standings of a DM648 are equal where both totals are.
 use Rattle.ledger.proofs.Totals.differ.Goals as goal
-
-pub returns-in-Am17xx : goal.returns-in-Am17xx
-returns-in-Am17xx c = rw c.in-Am17xx.is
+use Rattle.ledger.specs.rules.Totals.{is_other}
 
 pub returns-in-Dm648 : goal.returns-in-Dm648
-returns-in-Dm648 c = rw (c.in-Dm648.is, c.is_other.ensures)
+unfolding is_other
+returns-in-Dm648 c = rw (c.in-Dm648.is, c.ne.ensures)

@@ -7,5 +7,5 @@ pub returns : goal.returns
 unfolding last_answer report_of memory_left image_of
 returns c =
     let run = rw c.open-opened.ensures at
-    c.run_plain-called.ensures in
-    rw (c.word_at.ensures, c.ended.ensures, c.code.ensures, run.value, run.memory_after)
+    c.run_plain.ensures in
+    rw (c.word_at.ensures, c.ended.ensures, c.from-report.ensures, run.value, run.memory_after)

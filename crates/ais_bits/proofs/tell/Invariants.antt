@@ -1,9 +1,0 @@
--- The chosen words are counted, 64 at most.
-use Rattle.std.proofs.Common.{◌-◌, ◌≤◌}
-use Rattle.ais_bits.proofs.tell.Given as goal
-
-abbrev pub invariant-loop-i : goal.invariant-loop-i
-invariant-loop-i g l = l.i ≤ 64
-
-abbrev pub decreases-loop-i : goal.decreases-loop-i
-decreases-loop-i g l = 64 - l.i
