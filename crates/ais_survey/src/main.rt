@@ -1,7 +1,7 @@
 // The survey program: reads the names of images on standard input, one to a line, and writes a line for each and the totals.
 #![tactic(auto)]
 
-ghost use Rattle.std.specs.Prelude.{◌≤◌, length};
+ghost use Rattle.std.specs.Prelude.{◌≤◌, IfSome, length};
 
 use std::fs::Files;
 use std::io::Read;
@@ -44,7 +44,9 @@ impl<R: Read + Drop> List<R> {
 
 // Reads a line of the list: up to its line feed, or to the end of the list where something stands before it. What finds no room is dropped, since a name that
 // fills the room is too long for the system. No list has as many bytes as there are turns.
-fn read_name<'a>(list: &mut List<impl Read + Drop>, room: &'a mut [u8]) -> Option<&'a [u8]> {
+fn read_name<'a>(list: &mut List<impl Read + Drop>, room: &'a mut [u8]) -> Option<&'a [u8]>
+    ensures { IfSome result (λ bytes. length bytes.now ≤ length room.old) }
+{
     let mut kept: usize = 0;
     for _ in 0..u64::MAX {
         match list.next_byte() {
@@ -62,7 +64,9 @@ fn read_name<'a>(list: &mut List<impl Read + Drop>, room: &'a mut [u8]) -> Optio
 }
 
 // The bytes of a named file, as far as the room goes. A name that is no text names no file, and a folder is opened and can't be read.
-fn read_file<'a>(rt: &impl Files, name: &[u8], room: &'a mut [u8]) -> Option<&'a [u8]> {
+fn read_file<'a>(rt: &impl Files, name: &[u8], room: &'a mut [u8]) -> Option<&'a [u8]>
+    ensures { IfSome result (λ bytes. length bytes.now ≤ length room.old) }
+{
     let path = str::from_utf8(name).ok()?;
     let mut file = fs::open(rt, path).ok()?;
     let have = ais_reading::read_full(&mut file, room).ok()?;

@@ -82,9 +82,9 @@ fn overflow(rt: &impl Print) -> io::Result<()> {
     let windows = checking::one_window(0x8000_0000, 65536);
     let opened = Session::open(Dialect::Dm648, 1, windows, &image, 255);
     let mut memory = [0u8; 65536];
+    println!(rt; "image=256-fills-of-64-KiB")?;
     let last = flash_runs::run_plain(opened, &mut memory, &image);
     let counted = last.session.totals.now;
-    println!(rt; "image=256-fills-of-64-KiB")?;
     print!(rt; "{}", Report::from(last))?;
     println!(rt;
         "sections={}\nbytes={:#010X}",

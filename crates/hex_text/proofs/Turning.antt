@@ -1,5 +1,6 @@
 -- What turning text and image word by word comes to: a word has four bytes and eight digits. Both ways are instances of the laws of any such turn.
-use Rattle.std.proofs.Common.{◌≡◌, div-one, ℕ, ◌+◌, ◌*◌, ◌/◌, List, length, take, drop, refl}
+use Rattle.std.proofs.Common.{◌≡◌, div-one, ℕ, ◌+◌, ◌*◌, ◌/◌, List, [], ◌++◌, length, take, drop, refl, ◌∙◌, ap₂, append-nil, take_at, arith, drop_of_length-le}
+use Rattle.std.proofs.lemmas.List.Edits.{sets, sets-eq}
 use borrow.Rule.Slice.PartMut.{put_mid}
 use Rattle.std.specs.Int.{w32, to_le_bytes}
 use Rattle.words.specs.rules.Bytes.{byte, number}
@@ -14,6 +15,12 @@ bytes_length w = refl
 pub digits_length : (w : ℕ) → length (digits_of w) ≡ 8
 unfolding digits_of
 digits_length w = refl
+
+-- stores from the first place on, as many as there are places, leave nothing of what stood there
+pub all_stored : (place digits left : List ℕ) → length digits ≡ length place → left ≡ sets place 0 digits → left ≡ digits
+all_stored place digits left full stored =
+    let past : drop (0 + length digits) place ≡ [] = drop_of_length-le place (omega (arith, full)) in
+    stored ∙ sets-eq digits place 0 (omega (arith, full)) ∙ ap₂ (λ (front rest : List ℕ). front ++ (digits ++ rest)) (take_at [] place 0 refl) past ∙ append-nil digits
 
 -- they are those of the library, the lowest first
 pub little_endian : (w : ℕ) → to_le_bytes w32 w ≡ bytes_of w

@@ -102,20 +102,19 @@ fn digit_at(word: u32, place: u32) -> u8
     digits::last_digit(word >> (4 * place))
 }
 
-// The eight digits of a word, the highest first.
-fn digits_of(word: u32) -> [u8; 8]
-    ensures { result ≡ digits_of word }
+// The eight digits of a word put into their place, the highest first. Each is stored where it stands: an array of them that is copied is slower.
+fn put_digits(place: &mut [u8], word: u32)
+    requires { length place.old ≡ 8 }
+    ensures { place.new ≡ digits_of word }
 {
-    [
-        digit_at(word, 7),
-        digit_at(word, 6),
-        digit_at(word, 5),
-        digit_at(word, 4),
-        digit_at(word, 3),
-        digit_at(word, 2),
-        digit_at(word, 1),
-        digit_at(word, 0),
-    ]
+    place[0] = digit_at(word, 7);
+    place[1] = digit_at(word, 6);
+    place[2] = digit_at(word, 5);
+    place[3] = digit_at(word, 4);
+    place[4] = digit_at(word, 3);
+    place[5] = digit_at(word, 2);
+    place[6] = digit_at(word, 1);
+    place[7] = digit_at(word, 0);
 }
 
 // The text of an image, a word a turn.
@@ -124,7 +123,7 @@ fn write_words(image: &[u8], room: &mut [u8])
     ensures { room.new ≡ laid (text_of image.now) room.old }
 {
     for (i, bytes) in image.chunks_exact(4).enumerate() {
-        room[8 * i..8 * i + 8].copy_from_slice(&digits_of(words::number_of(bytes)));
+        put_digits(&mut room[8 * i..8 * i + 8], words::number_of(bytes));
     }
 }
 

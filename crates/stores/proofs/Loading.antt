@@ -1,17 +1,13 @@
 -- Bytes loaded and then others just above them are one load: the law of adjacent writes, where each byte is that of the two lists joined. Bytes that were
 -- loaded are found at their place, each by the law of a byte in the range.
-use Prim.Native.Nat.{ℕ, ◌+◌, ◌-◌, ◌≤◌, ◌<◌, min}
+use Prim.Native.Nat.{ℕ, ◌+◌, ◌≤◌}
 use mathlib.Core.List.{List, ◌++◌}
-use borrow.Rule.Slice.PartMut.{put_mid}
-use native.Mathlib.Decide.{dec_lt}
-use Rattle.std.proofs.lemmas.List.{places}
 use mathlib.Core.Path.{◌≡◌, sym, ap, ◌∙◌}
 use native.Mathlib.Omega.{arith}
-use borrow.Author.Rules.{rules}
 use lib.ListN.{length, get_or, take, drop, length-append, length-take, length-drop, get_or-append}
 use lib.Seq.{ext_get_or, get_or-append-add, get_or-drop, get_or-take}
 use Rattle.words.specs.rules.Bytes.{bytes_at, put}
-use Rattle.words.proofs.Puts.{length_put, put_inside, put_outside, put_same, put_append, put_clamped}
+use Rattle.words.proofs.Puts.{length_put, put_inside, put_same, put_append}
 use Rattle.stores.specs.rules.Stores.{loaded}
 
 pub loaded_append : (m : List ℕ) (place : ℕ) (xs ys : List ℕ) → loaded (loaded m place xs) (place + length xs) ys ≡ loaded m place (xs ++ ys)
@@ -35,30 +31,3 @@ loaded_there m place xs fit =
     get_or-take (length xs) (drop place after) i 0 (omega arith)
     ∙ get_or-drop place after i 0
     ∙ put_inside m place (length xs) (λ i. get_or xs i 0) i (omega arith) (omega arith))
-
--- the element of a part that was copied, and one past it on either side
-copied_at : (m part : List ℕ) (at n i : ℕ) → length part ≡ n → at + n ≤ length m
-    → get_or (put_mid at n m part) i 0 ≡ get_or (put m at n (λ j. get_or part j 0)) i 0
-copied_at m part at n i e h = go (dec_lt i at) (dec_lt i (at + n))
-  where
-    f : ℕ → ℕ
-    f j = get_or part j 0
-
-    go : Dec (i < at) → Dec (i < at + n) → get_or (put_mid at n m part) i 0 ≡ get_or (put m at n f) i 0
-    go (yes below) _ = rw (put_outside m at n f i (λ j l same. omega arith)) (search (rules, places))
-    go (no up) (no past) = rw (put_outside m at n f i (λ j l same. omega arith)) (search (rules, places))
-    go (no up) (yes inside) =
-        let there : i ≡ at + (i - at) = omega arith in
-        rw there (rw (put_inside m at n f (i - at) (omega arith) (omega arith)) (search (rules, places)))
-
--- the bytes that fit, copied over their part of a memory
-pub loaded_copied : (m bytes part : List ℕ) (at n k : ℕ) → at < length m → n ≡ min (length bytes) (length m - at) → k ≡ n → part ≡ take n bytes
-    → put_mid at k m part ≡ loaded m at bytes
-unfolding loaded
-loaded_copied m bytes part at n k h least e same =
-    let long : length part ≡ n = ap length same ∙ length-take n bytes ∙ omega arith in
-    rw e
-    (ext_get_or 0 (put_mid at n m part) (put m at n (λ i. get_or part i 0)) (rw length_put (search (rules, places)))
-    (λ i l. copied_at m part at n i long (omega arith))
-    ∙ put_same m at n {g = λ i. get_or bytes i 0} (λ i l. ap (λ (b : List ℕ). get_or b i 0) same ∙ get_or-take n bytes i 0 l)
-    ∙ rw least (sym (put_clamped m at (length bytes) (λ i. get_or bytes i 0))))

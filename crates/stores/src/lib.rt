@@ -8,7 +8,8 @@ ghost use Rattle.stores.specs.rules.Stores.{loaded, words_fed, load_fed, filled}
 
 use words::Unit;
 
-// The bytes of a load, lowest address first; none past the end.
+// The bytes of a load, lowest address first; none past the end. One by one: the library's copy of a slice into one that may be the same stretch needs a
+// function of the C library, `memmove`, which a rig without one would have to give.
 fn copy(memory: &mut [u8], place: usize, bytes: &[u8])
     ensures { memory.new ≡ loaded memory.old place bytes.now }
 {
@@ -16,7 +17,9 @@ fn copy(memory: &mut [u8], place: usize, bytes: &[u8])
         return;
     }
     let n = bytes.len().min(memory.len() - place);
-    memory[place..place + n].copy_from_slice(&bytes[..n]);
+    for i in 0..n {
+        memory[place + i] = bytes[i];
+    }
 }
 
 // What the data of a load feed: a word at a time, of the last only the bytes that are left.

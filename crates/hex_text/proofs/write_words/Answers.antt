@@ -13,8 +13,8 @@ loop-i-init c =
     let none : c.into_iter-i-iterator.result.count ≡ 0 = cc in
     record { size = cc; rest = rw none (cc); counted = omega arith; laid_so_far = rw none refl }
 
-pub slice_bounds-copy_from_slice-end : goal.slice_bounds-copy_from_slice-end
-slice_bounds-copy_from_slice-end c =
+pub slice_bounds-put_digits-end : goal.slice_bounds-put_digits-end
+slice_bounds-put_digits-end c =
     let l = c.loop-i in
     let s = c.in-Some.ensures.steps in
     let taken = word_taken 4 _ _ _ _ _ l.invariant.rest s.0.1.0 (s.0.1.1 ∙ l.invariant.size) l.invariant.counted in
@@ -29,7 +29,7 @@ loop-i-preserved c =
     let taken = word_taken 4 _ _ _ _ _ l.invariant.rest s.0.1.0 size l.invariant.counted in
     let all : length c.in-Some.bytes.now ≤ 4 = omega arith in
     let word = c.number_of.ensures ∙ ap number (take_all 4 _ all ∙ taken.0) in
-    let digits = c.copy_from_slice.ensures.after ∙ c.digits_of.ensures ∙ ap digits_of word in
+    let digits = c.put_digits.ensures ∙ ap digits_of word in
     record {
       size = s.0.0 ∙ l.invariant.size;
       rest = rw s.2 taken.1;
