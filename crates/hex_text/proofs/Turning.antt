@@ -20,7 +20,9 @@ digits_length w = refl
 pub all_stored : (place digits left : List ℕ) → length digits ≡ length place → left ≡ sets place 0 digits → left ≡ digits
 all_stored place digits left full stored =
     let past : drop (0 + length digits) place ≡ [] = drop_of_length-le place (omega (arith, full)) in
-    stored ∙ sets-eq digits place 0 (omega (arith, full)) ∙ ap₂ (λ (front rest : List ℕ). front ++ (digits ++ rest)) (take_at [] place 0 refl) past ∙ append-nil digits
+    stored ∙ sets-eq digits place 0 (omega (arith, full))
+    ∙ ap₂ (λ (front rest : List ℕ). front ++ (digits ++ rest)) (take_at [] place 0 refl) past
+    ∙ append-nil digits
 
 -- they are those of the library, the lowest first
 pub little_endian : (w : ℕ) → to_le_bytes w32 w ≡ bytes_of w
